@@ -1,7 +1,12 @@
 #!/usr/bin/env python3
 """Checks the pages: links and anchors, names in backticks, quoted definitions, command blocks with their outputs, each
 row of the table of PROVED (definitions, files, clauses, proofs and tests that it names), that MODEL names every module of
-definitions, and the number of words of README. Prints what it finds, and at last `pages: N faults`."""
+definitions, that the manual's quick reference is whole and the manual has the words by which a statistician looks for
+something, and the number of words of README. Blocks that call a companion (`start`, `page`, `seal`, ..) or several jobs
+at a time are run in a copy of their example, where the built programs are at hand as out/argus and out/cells; else a line
+says how many were left out. Prints what it finds, a line for each fault, and at last `pages: N faults`.
+
+`--clauses` checks nothing, and lists the clauses of public functions that no row of PROVED names."""
 
 import functools
 import os
@@ -13,9 +18,10 @@ import tempfile
 
 TOP = os.path.dirname(os.path.dirname(os.path.dirname(os.path.abspath(__file__))))
 PAGES = ["README.md", "docs/MANUAL.md", "docs/PROVED.md", "docs/MODEL.md", "docs/ARCHITECTURE.md", "docs/DECISIONS.md",
-         "bench/README.md", "bench/WRONG_BODIES.md", "examples/first/README.md"]
-MOST_WORDS_OF_README = 1300
+         "bench/README.md", "bench/WRONG_BODIES.md", "examples/first/README.md", "built/README.md"]
+MOST_WORDS_OF_README = 1000
 faults = 0
+left_out = 0
 
 
 def fault(page, text):
@@ -199,8 +205,8 @@ def grep(words):
     return ["".join(line + "\n" for line in l) for l in lists]
 
 
-# A full disk (bench/real_files), a page (bench/page), and an input that the reader has changed (the same as examples/stated).
-UNTRIED = {"argus run turnover.job", "../../page turnover.job"}
+# A full disk (bench/real_files), and an input that the reader has changed (the same as examples/stated).
+UNTRIED = {"argus run turnover.job"}
 CHANGED_BY_THE_READER = {("examples/first/README.md", "../../argus run r1.job")}
 
 
@@ -208,9 +214,84 @@ def check_commands(page, answers):
     for block in re.findall(r"^```\n(.*?)^```", read(page), re.M | re.S):
         if not block.startswith("$ "):
             continue
-        for part in re.split(r"^\$ ", block, flags=re.M)[1:]:
-            command, _, said = part.partition("\n")
-            check_command(page, command.strip(), said, answers)
+        parts = [part.partition("\n") for part in re.split(r"^\$ ", block, flags=re.M)[1:]]
+        commands = [(command.strip(), said) for command, _, said in parts]
+        if any(COMPANION.match(command) for command, _ in commands):
+            check_block(page, commands)
+            continue
+        for command, said in commands:
+            check_command(page, command, said, answers)
+
+
+# ---- blocks that call a companion, or several jobs at a time
+
+PROGRAMS = ["argus", "cells"]
+COMPANIONS = ["start", "explain", "page", "seal", "carry", "outside/check"]
+COMPANION = re.compile(r"(\.\./\.\./(?:" + "|".join(COMPANIONS) + r")|make|xargs|parallel) ")
+# What a block of README or the manual may leave out of what it prints: a comparison of its own is in bench/start.
+QUIET = ("../../start ",)
+
+
+def are_built():
+    return all(os.path.exists(os.path.join(TOP, "out", name)) for name in PROGRAMS)
+
+
+def check_block(page, commands):
+    """The commands of a block print what it says in some example, one after the other, after the example's own calls."""
+    global left_out
+    tools = {command.split(" ")[0] for command, _ in commands} & {"make", "xargs", "parallel"}
+    if not are_built() or not all(shutil.which(tool) for tool in tools):
+        left_out += 1
+        return
+    names = set(re.findall(r"[\w.]+\.(?:job|csv|said)", " ".join(command for command, _ in commands)))
+    folders = sorted({os.path.dirname(f) for f in FILES if re.fullmatch(r"examples/\w+/[^/]+", f)})
+    folders = [f for f in folders if all(is_of(f, name) for name in names if not name.endswith(".said"))]
+    found = [fault_of_block(folder, commands) for folder in folders]
+    if None not in found:
+        fault(page, found[0] if found else f"`{commands[0][0]}`: no example has {', '.join(sorted(names))}")
+
+
+def is_of(folder, name):
+    return f"{folder}/{name}" in FILES or f"{folder}/{name}.expected" in FILES
+
+
+def fault_of_block(folder, commands):
+    """What is wrong with a block in a copy of this example; None where nothing is."""
+    with tempfile.TemporaryDirectory() as top:
+        lay_out(top, folder)
+        place = os.path.join(top, "out", "tried")
+        for command, said in commands:
+            if command.startswith(("mkdir", "cd ")):
+                continue
+            done = call(command, place)
+            # start says by which way argus is called, and that is another one from here.
+            printed = done.stdout.replace(TOP + "/", "../../")
+            if printed != said and not (said == "" and command.startswith(QUIET)):
+                return f"`{command}` prints {(printed or done.stderr).strip()[:80]!r} in {folder}, and not {said.strip()[:80]!r}"
+    return None
+
+
+def call(command, place):
+    env = dict(os.environ, ARGUS_BUILD="0", ARGUS_EXPLAIN="0", PYTHONDONTWRITEBYTECODE="1")
+    return subprocess.run(["sh", "-c", command], cwd=place, env=env, capture_output=True, text=True)
+
+
+def lay_out(top, folder):
+    """A folder out/tried with the example's inputs, two levels below calls of the repository's programs, and the example's own calls made."""
+    place = os.path.join(top, "out", "tried")
+    os.makedirs(place)
+    os.makedirs(os.path.join(top, "outside"))
+    for name in PROGRAMS + COMPANIONS:
+        with open(os.path.join(top, name), "w", encoding="utf-8") as file:
+            file.write(f'#!/bin/sh\nexec "{TOP}/{name}" "$@"\n')
+        os.chmod(os.path.join(top, name), 0o755)
+    inputs = [f for f in FILES if os.path.dirname(f) == folder and not f.endswith(".expected")]
+    for f in inputs:
+        shutil.copy(os.path.join(TOP, f), place)
+    jobs = sorted(os.path.basename(f) for f in inputs if f.endswith(".job"))
+    asked = read(f"{folder}/words.txt").split("\n") if f"{folder}/words.txt" in FILES else [f"run {job}" for job in jobs]
+    for words in [w for w in asked if w]:
+        call(f"../../argus {words}", place)
 
 
 def check_command(page, command, said, answers):
@@ -286,6 +367,28 @@ def check_clauses(page, crates, text):
                 fault(page, f"no such clause: {clause} of {', '.join(names)}")
 
 
+def public_clauses(crate):
+    """The named clauses of a crate's public functions: pairs of function and clause."""
+    pairs = set()
+    for f in FILES:
+        if re.fullmatch(rf"crates/{crate}/src/\w+\.rt", f):
+            for head in re.split(r"^\s*(?=(?:pub(?:\(\w+\))? )?fn )", read(f), flags=re.M)[1:]:
+                name = re.match(r"pub fn (\w+)", head)
+                if name:
+                    pairs.update((name[1], clause) for clause in re.findall(r"\bensures (\w+) \{", head))
+    return pairs
+
+
+def list_unnamed_clauses(page):
+    """Prints each clause of a public function that no row of its crate's section names: --clauses, not counted as a fault."""
+    text = read(page)
+    for crate in [line.split(":")[0] for line in read("crates.txt").split("\n") if line and not line.startswith("#")]:
+        sections = " ".join(s for s in re.split(r"^## ", text, flags=re.M)[1:] if f"`{crate}`" in s.split("\n")[0])
+        for function, clause in sorted(public_clauses(crate)):
+            if sections and not re.search(rf"\b{clause}\b", sections):
+                print(f"{page}: no row names {clause} of {crate}::{function}")
+
+
 def check_modules(page):
     text = read(page)
     for f in FILES:
@@ -294,7 +397,126 @@ def check_modules(page):
             fault(page, f"no entry for {module[1]}/specs/{module[2]}")
 
 
+MANY = "examples/many"
+
+
+def check_many(page):
+    """The chapter on many jobs: its Makefile is that of the example, and each way to run three jobs that is at hand gives their answers."""
+    section = section_of(read(page), "## Many jobs, many machines")
+    rules = read(f"{MANY}/Makefile").split("\n", 1)[1]
+    if f"```\n{rules}```" not in section:
+        fault(page, f"the Makefile isn't that of {MANY}")
+    if not are_built():
+        return
+    ways = [way.replace("make -k", "make -s -k") for way in re.findall(r"^\| [^|]* \| `((?:make|xargs|parallel) [^`]*)`", section, re.M)]
+    ways = [way for way in ways if shutil.which(way.split(" ")[0])]
+    for way in ways + [" && ".join(f"SLURM_ARRAY_TASK_ID={number} sh array.sh" for number in (1, 2, 3))]:
+        with tempfile.TemporaryDirectory() as top:
+            lay_out(top, MANY)
+            place = os.path.join(top, "out", "tried")
+            call(way, place)
+            said = call("cat q1.said q2.said q3.said | grep -v accepted", place).stdout
+        if said != read(f"{MANY}/said.txt"):
+            fault(page, f"`{way}` gives other answers: {said.strip()[:80]!r}")
+
+
+# ---- the words by which a statistician looks for something
+
+# Each with the question that a newcomer from tau-ARGUS may have. The manual has to have the word, and its index too.
+WORDS = {
+    "secondary suppression": "how are further cells chosen?",
+    "complementary suppression": "the same, by its other name",
+    "primary suppression": "what makes a cell sensitive?",
+    "feasibility interval": "how exactly can a reader estimate a hidden cell?",
+    "singleton": "what of a firm that is alone in its cell?",
+    "linked tables": "how do I protect tables that share cells?",
+    "hierarchical tables": "how do I write codes with subtotals?",
+    "information loss": "how much is hidden?",
+    "dominance rule": "where are n and k?",
+    "p percent rule": "where is p?",
+    "prior-posterior rule": "what if firms know each other?",
+    "threshold rule": "how do I ask for three firms in a cell?",
+    "minimum frequency": "the same, in tau-ARGUS's words",
+    "protection level": "how far is a cell open?",
+    "sensitive cell": "which cells need protection?",
+    "controlled rounding": "can I round instead?",
+    "hypercube method": "is GHMITER there?",
+    "modular method": "is the modular approach there?",
+    "optimal suppression": "is the optimal approach there?",
+    "missing values": "what happens to missing codes?",
+    "counts": "can I protect counts?",
+    "sampling weight": "does it take weights?",
+    "holding": "what of firms with one owner?",
+    "request rule": "what of firms that ask for confidentiality?",
+    "negative values": "does it take losses?",
+    "global recoding": "how do I make codes coarser?",
+    "shadow variable": "can the rules look at another variable?",
+    "cost of a cell": "what is hidden first?",
+    "safety status": "how do I set the status of a cell?",
+    "byte order mark": "why is my first code odd?",
+    "disclosure by differencing": "may I publish a second table?",
+    "controlled tabular adjustment": "is CTA there?",
+    "CSV": "how do I bring my own data?",
+    "units": "in which units are intervals?",
+    "running time": "how long does it take?",
+    "Slurm": "can I run many jobs?",
+}
+
+
+def check_words(page):
+    """Each word is in the manual's text and in its index of words, whatever the case of its letters and the breaks of its lines."""
+    text, _, index = read(page).partition("\n## Index of words\n")
+    plain, listed = (re.sub(r"[\s*`]+", " ", part).lower() for part in (text, index))
+    for word, question in WORDS.items():
+        for part, name in ((plain, "text"), (listed, "index")):
+            if word.lower() not in part:
+                fault(page, f"a reader who asks '{question}' doesn't find '{word}' in the {name}")
+
+
+def section_of(text, heading):
+    """What stands below a heading, up to the next one of its level or above; lines of blocks are no headings."""
+    level = len(heading.split(" ")[0])
+    kept, inside = [], False
+    for line in text.partition(f"\n{heading}\n")[2].split("\n"):
+        inside ^= line.startswith("```")
+        if not inside and re.match(rf"#{{1,{level}}} ", line):
+            break
+        kept.append(line + "\n")
+    return "".join(kept)
+
+
+def check_reference(page):
+    """The quick reference has every command of a job, every keyword of metadata and of an a priori file, and every word of argus."""
+    text = read(page)
+    reference = section_of(text, "## Quick reference")
+    for heading in ("### Commands of a job", "### Keyword lines", "### Lines of an a priori file"):
+        listed = re.findall(r"^\| (`[^|]*`) \|", section_of(text, heading), re.M)
+        for name in re.findall(r"`(<?\w+>?)`", " ".join(listed)):
+            bare = name.strip("<>")
+            if not re.search(rf"<{bare}>" if name != bare else rf"`{bare}[`,]", reference) and bare != "RECODABLE":
+                fault(page, f"the quick reference lacks {name} of {heading.strip('# ')}")
+    usage = re.search(r"usage: argus ([^`]*)`", text)
+    for word in re.findall(r"\b[a-z]+\b", usage[1].replace("\\", "")):
+        if f"`argus {word} " not in reference:
+            fault(page, f"the quick reference lacks argus {word}")
+
+
+# Sentences that were wrong or unclear once, for offices: they aren't to come back.
+GONE = ["beside its inputs", "beside those that it reads", "twenty to forty minutes", "whoever", "hang together", "once more", "names a cell", "names the cell",
+        "the microdata have", "was lent"]
+
+
+def check_gone(page):
+    plain = re.sub(r"\s+", " ", read(page)).lower()
+    for words in GONE:
+        if words in plain:
+            fault(page, f"has '{words}' again")
+
+
 def main():
+    if sys.argv[1:] == ["--clauses"]:
+        list_unnamed_clauses("docs/PROVED.md")
+        return 0
     words = words_of_tree()
     answers = answers_of_examples()
     for page in PAGES:
@@ -307,9 +529,16 @@ def main():
     check_definitions("docs/MODEL.md")
     check_modules("docs/MODEL.md")
     check_proved("docs/PROVED.md")
+    check_many("docs/MANUAL.md")
+    check_words("docs/MANUAL.md")
+    check_reference("docs/MANUAL.md")
+    for page in ("README.md", "docs/MANUAL.md", "examples/first/README.md"):
+        check_gone(page)
     count = len(read("README.md").split())
     if count > MOST_WORDS_OF_README:
-        fault("README.md", f"{count} words")
+        fault("README.md", f"{count} words, and {MOST_WORDS_OF_README} are allowed")
+    if left_out:
+        print(f"{left_out} blocks of commands left out: there is no out/argus, out/cells or make")
     print(f"pages: {faults} faults")
     return 1 if faults else 0
 
