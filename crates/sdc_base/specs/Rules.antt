@@ -1,4 +1,4 @@
--- Primary rules: which cells are sensitive in themselves (handbook, sensitivity rules). So far the frequency rule.
+-- The frequency rule: which cells are sensitive by the number of their records (handbook, sensitivity rules).
 use Rattle.std.specs.Prelude.{ℕ, ◌&&◌, nat_le, nat_lt, Bool, List, Option}
 use Rattle.sdc_base.specs.Places.{first_place}
 use Rattle.sdc_base.specs.Trees.{Tree}
