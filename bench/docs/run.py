@@ -1,12 +1,10 @@
 #!/usr/bin/env python3
 """Checks the pages: links and anchors, names in backticks, quoted definitions, command blocks with their outputs, each
-row of the table of PROVED (definitions, files, clauses, proofs and tests that it names), that MODEL names every module of
-definitions, that the manual's quick reference is whole and the manual has the words by which a statistician looks for
+row of the tables of PROVED (definitions, files, clauses, proofs and tests that it names, and its length), that some row names
+each clause of a public function (`clauses.py` lists which row does), that MODEL names every module of definitions, that the manual's quick reference is whole and the manual has the words by which a statistician looks for
 something, and the number of words of README. Blocks that call a companion (`start`, `page`, `seal`, ..) or several jobs
 at a time are run in a copy of their example, where the built programs are at hand as out/argus and out/cells; else a line
-says how many were left out. Prints what it finds, a line for each fault, and at last `pages: N faults`.
-
-`--clauses` checks nothing, and lists the clauses of public functions that no row of PROVED names."""
+says how many were left out. Prints what it finds, a line for each fault, and at last `pages: N faults`."""
 
 import functools
 import os
@@ -16,10 +14,13 @@ import subprocess
 import sys
 import tempfile
 
+import clauses
+
 TOP = os.path.dirname(os.path.dirname(os.path.dirname(os.path.abspath(__file__))))
 PAGES = ["README.md", "docs/MANUAL.md", "docs/PROVED.md", "docs/MODEL.md", "docs/ARCHITECTURE.md", "docs/DECISIONS.md",
          "bench/README.md", "bench/WRONG_BODIES.md", "examples/first/README.md", "built/README.md"]
 MOST_WORDS_OF_README = 1000
+MOST_WORDS_OF_ROW = 60
 faults = 0
 left_out = 0
 
@@ -355,38 +356,24 @@ def check_row(page, crates, row, tests):
 
 
 def check_clauses(page, crates, text):
+    """The clauses that a column of calls lists are there, each as one of the functions that it is listed behind."""
     known = {c: clauses_of(c) for c in crates}
     for part in text.split(";"):
-        names = [n.split("::")[-1] for n in re.findall(r"`([\w:]+)`", part)]
-        listed = re.search(r": ([a-z_]+(?:, [a-z_]+)*)$", part.strip())
-        if not names or not listed:
-            continue
-        found = set().union(*[known[c].get(n, set()) for c in crates for n in names])
-        for clause in listed[1].split(", "):
-            if clause not in found:
-                fault(page, f"no such clause: {clause} of {', '.join(names)}")
+        named = clauses.named_in(part)
+        names = sorted({name for name, _ in named})
+        found = set().union(*[known[c].get(n.split("::")[-1], set()) for c in crates for n in names])
+        for clause in sorted({clause for _, clause in named} - {clauses.PLAIN} - found):
+            fault(page, f"no such clause: {clause} of {', '.join(names)}")
 
 
-def public_clauses(crate):
-    """The named clauses of a crate's public functions: pairs of function and clause."""
-    pairs = set()
-    for f in FILES:
-        if re.fullmatch(rf"crates/{crate}/src/\w+\.rt", f):
-            for head in re.split(r"^\s*(?=(?:pub(?:\(\w+\))? )?fn )", read(f), flags=re.M)[1:]:
-                name = re.match(r"pub fn (\w+)", head)
-                if name:
-                    pairs.update((name[1], clause) for clause in re.findall(r"\bensures (\w+) \{", head))
-    return pairs
-
-
-def list_unnamed_clauses(page):
-    """Prints each clause of a public function that no row of its crate's section names: --clauses, not counted as a fault."""
-    text = read(page)
-    for crate in [line.split(":")[0] for line in read("crates.txt").split("\n") if line and not line.startswith("#")]:
-        sections = " ".join(s for s in re.split(r"^## ", text, flags=re.M)[1:] if f"`{crate}`" in s.split("\n")[0])
-        for function, clause in sorted(public_clauses(crate)):
-            if sections and not re.search(rf"\b{clause}\b", sections):
-                print(f"{page}: no row names {clause} of {crate}::{function}")
+def check_promises(page):
+    """Each clause of a public function is named by a row, and each row is short."""
+    for clause in clauses.unnamed():
+        fault(page, f"no row names {clause}")
+    for row in re.findall(r"^\| .*\|$", read(page), re.M):
+        count = len(row.replace("|", " ").split())
+        if count > MOST_WORDS_OF_ROW:
+            fault(page, f"a row of {count} words, and {MOST_WORDS_OF_ROW} are allowed: {row[:60]}")
 
 
 def check_modules(page):
@@ -514,9 +501,6 @@ def check_gone(page):
 
 
 def main():
-    if sys.argv[1:] == ["--clauses"]:
-        list_unnamed_clauses("docs/PROVED.md")
-        return 0
     words = words_of_tree()
     answers = answers_of_examples()
     for page in PAGES:
@@ -529,6 +513,7 @@ def main():
     check_definitions("docs/MODEL.md")
     check_modules("docs/MODEL.md")
     check_proved("docs/PROVED.md")
+    check_promises("docs/PROVED.md")
     check_many("docs/MANUAL.md")
     check_words("docs/MANUAL.md")
     check_reference("docs/MANUAL.md")
