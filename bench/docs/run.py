@@ -1,8 +1,8 @@
 #!/usr/bin/env python3
 """Checks the pages: links and anchors, names in backticks, quoted definitions, command blocks with their outputs, each
 row of the tables of PROVED (definitions, files, clauses, proofs and tests that it names, and its length), that some row names
-each clause of a public function (`clauses.py` lists which row does), that MODEL names every module of definitions, that the manual's quick reference is whole and the manual has the words by which a statistician looks for
-something, and the number of words of README. Blocks that call a companion (`start`, `page`, `seal`, ..) or several jobs
+each clause of a public function (`clauses.py` lists which row does), that MODEL names every module of definitions, that the manual's quick reference is whole and has below the right heading the word by which a statistician looks for the
+answer to each question of `questions.txt`, and the number of words of README. Blocks that call a companion (`start`, `page`, `seal`, ..) or several jobs
 at a time are run in a copy of their example, where the built programs are at hand as out/argus and out/cells; else a line
 says how many were left out. Prints what it finds, a line for each fault, and at last `pages: N faults`."""
 
@@ -385,6 +385,24 @@ def check_modules(page):
 
 
 MANY = "examples/many"
+# Stands for Airflow: a DAG made with it prints the commands of its tasks.
+AIRFLOW = """
+import contextlib, sys, types
+def module(name, **its):
+    sys.modules[name] = types.ModuleType(name)
+    sys.modules[name].__dict__.update(its)
+module("pendulum", datetime=lambda *day: day)
+module("airflow", DAG=lambda name, **its: contextlib.nullcontext())
+module("airflow.operators")
+module("airflow.operators.bash", BashOperator=lambda task_id, cwd, bash_command, retries: print(bash_command))
+"""
+
+
+def commands_of_dag(section):
+    """The commands that the DAG of the chapter calls, one after the other, with the program two levels above the folder."""
+    dag = re.search(r"^```\n(import pendulum.*?)^```", section, re.M | re.S)
+    done = subprocess.run([sys.executable, "-c", AIRFLOW + dag[1]], capture_output=True, text=True)
+    return " ; ".join(done.stdout.replace("~/argus/argus", "../../argus").split("\n")[:-1])
 
 
 def check_many(page):
@@ -397,7 +415,7 @@ def check_many(page):
         return
     ways = [way.replace("make -k", "make -s -k") for way in re.findall(r"^\| [^|]* \| `((?:make|xargs|parallel) [^`]*)`", section, re.M)]
     ways = [way for way in ways if shutil.which(way.split(" ")[0])]
-    for way in ways + [" && ".join(f"SLURM_ARRAY_TASK_ID={number} sh array.sh" for number in (1, 2, 3))]:
+    for way in ways + [" && ".join(f"SLURM_ARRAY_TASK_ID={number} sh array.sh" for number in (1, 2, 3)), commands_of_dag(section)]:
         with tempfile.TemporaryDirectory() as top:
             lay_out(top, MANY)
             place = os.path.join(top, "out", "tried")
@@ -409,55 +427,27 @@ def check_many(page):
 
 # ---- the words by which a statistician looks for something
 
-# Each with the question that a newcomer from tau-ARGUS may have. The manual has to have the word, and its index too.
-WORDS = {
-    "secondary suppression": "how are further cells chosen?",
-    "complementary suppression": "the same, by its other name",
-    "primary suppression": "what makes a cell sensitive?",
-    "feasibility interval": "how exactly can a reader estimate a hidden cell?",
-    "singleton": "what of a firm that is alone in its cell?",
-    "linked tables": "how do I protect tables that share cells?",
-    "hierarchical tables": "how do I write codes with subtotals?",
-    "information loss": "how much is hidden?",
-    "dominance rule": "where are n and k?",
-    "p percent rule": "where is p?",
-    "prior-posterior rule": "what if firms know each other?",
-    "threshold rule": "how do I ask for three firms in a cell?",
-    "minimum frequency": "the same, in tau-ARGUS's words",
-    "protection level": "how far is a cell open?",
-    "sensitive cell": "which cells need protection?",
-    "controlled rounding": "can I round instead?",
-    "hypercube method": "is GHMITER there?",
-    "modular method": "is the modular approach there?",
-    "optimal suppression": "is the optimal approach there?",
-    "missing values": "what happens to missing codes?",
-    "counts": "can I protect counts?",
-    "sampling weight": "does it take weights?",
-    "holding": "what of firms with one owner?",
-    "request rule": "what of firms that ask for confidentiality?",
-    "negative values": "does it take losses?",
-    "global recoding": "how do I make codes coarser?",
-    "shadow variable": "can the rules look at another variable?",
-    "cost of a cell": "what is hidden first?",
-    "safety status": "how do I set the status of a cell?",
-    "byte order mark": "why is my first code odd?",
-    "disclosure by differencing": "may I publish a second table?",
-    "controlled tabular adjustment": "is CTA there?",
-    "CSV": "how do I bring my own data?",
-    "units": "in which units are intervals?",
-    "running time": "how long does it take?",
-    "Slurm": "can I run many jobs?",
-}
+# A line for each question of a statistician: the question, the word to search for, and the heading under which the answer is.
+QUESTIONS = "bench/docs/questions.txt"
 
 
-def check_words(page):
-    """Each word is in the manual's text and in its index of words, whatever the case of its letters and the breaks of its lines."""
-    text, _, index = read(page).partition("\n## Index of words\n")
-    plain, listed = (re.sub(r"[\s*`]+", " ", part).lower() for part in (text, index))
-    for word, question in WORDS.items():
-        for part, name in ((plain, "text"), (listed, "index")):
-            if word.lower() not in part:
-                fault(page, f"a reader who asks '{question}' doesn't find '{word}' in the {name}")
+def plain(text):
+    """The words of a text in small letters, without marks and breaks of lines."""
+    return re.sub(r"[\s*`]+", " ", text).lower()
+
+
+def check_questions(page):
+    """Each question's word is below the heading where its answer is, and in the glossary or the index of words."""
+    text = read(page)
+    headings = {re.sub(r"`", "", line.lstrip("# ")): line for line in re.findall(r"^#{2,4} .*$", without_blocks(text), re.M)}
+    listed = plain(section_of(text, "## Glossary") + section_of(text, "## Index of words"))
+    for question, word, heading in [line.split("|") for line in read(QUESTIONS).split("\n") if line and not line.startswith("#")]:
+        if heading not in headings:
+            fault(page, f"has no heading '{heading}', where '{question}' is answered")
+        elif word.lower() not in plain(headings[heading] + "\n" + section_of(text, headings[heading])):
+            fault(page, f"a reader who asks '{question}' doesn't find '{word}' below '{heading}'")
+        if word.lower() not in listed:
+            fault(page, f"a reader who asks '{question}' doesn't find '{word}' in the glossary or the index")
 
 
 def section_of(text, heading):
@@ -488,15 +478,15 @@ def check_reference(page):
             fault(page, f"the quick reference lacks argus {word}")
 
 
-# Sentences that were wrong or unclear once, for offices: they aren't to come back.
+# Words of sentences that were wrong or unclear once: they aren't to come back.
 GONE = ["beside its inputs", "beside those that it reads", "twenty to forty minutes", "whoever", "hang together", "once more", "names a cell", "names the cell",
-        "the microdata have", "was lent"]
+        "the microdata have", "was lent", "want of memory", "reasons back"]
 
 
 def check_gone(page):
-    plain = re.sub(r"\s+", " ", read(page)).lower()
+    text = plain(without_blocks(read(page)))
     for words in GONE:
-        if words in plain:
+        if words in text:
             fault(page, f"has '{words}' again")
 
 
@@ -515,9 +505,9 @@ def main():
     check_proved("docs/PROVED.md")
     check_promises("docs/PROVED.md")
     check_many("docs/MANUAL.md")
-    check_words("docs/MANUAL.md")
+    check_questions("docs/MANUAL.md")
     check_reference("docs/MANUAL.md")
-    for page in ("README.md", "docs/MANUAL.md", "examples/first/README.md"):
+    for page in PAGES:
         check_gone(page)
     count = len(read("README.md").split())
     if count > MOST_WORDS_OF_README:
