@@ -479,7 +479,7 @@ def check_reference(page):
 
 
 # Words of sentences that were wrong or unclear once: they aren't to come back.
-GONE = ["beside its inputs", "beside those that it reads", "twenty to forty minutes", "whoever", "hang together", "once more", "names a cell", "names the cell",
+GONE = ["beside its inputs", "beside those that it reads", "twenty to forty minutes", "whoever", "hang together", "once more", "a rule names a cell", "a rule names the cell",
         "the microdata have", "was lent", "want of memory", "reasons back"]
 
 
