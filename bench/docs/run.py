@@ -364,6 +364,17 @@ def check_clauses(page, crates, text):
         found = set().union(*[known[c].get(n.split("::")[-1], set()) for c in crates for n in names])
         for clause in sorted({clause for _, clause in named} - {clauses.PLAIN} - found):
             fault(page, f"no such clause: {clause} of {', '.join(names)}")
+        # the parts of a clause that is a record
+        for part_of_record in re.findall(r"[a-z_]+", " ".join(re.findall(r"\(([a-z_, ]+)\)", part))):
+            if part_of_record not in fields_of(crates[0]):
+                fault(page, f"no such part of a clause: {part_of_record} of {', '.join(names)}")
+
+
+@functools.cache
+def fields_of(crate):
+    """The fields of the records that a crate defines."""
+    specs = [read(f) for f in FILES if f.startswith(f"crates/{crate}/specs/") and f.endswith(".antt")]
+    return set(re.findall(r"^  pub (\w+) :", "\n".join(specs), re.M))
 
 
 def check_promises(page):
