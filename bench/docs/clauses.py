@@ -72,7 +72,7 @@ def clauses_in(text: str, public: Set[str]) -> Iterator[Tuple[str, str]]:
     inside = False
     for line in text.split("\n"):
         head = re.match(r"(\s*)(pub(?:\(\w+\))? )?fn (\w+)", line)
-        clause = re.match(r"\s*ensures ?(\w*) ?\{", line)
+        clause = re.match(r"\s*ensures\*? ?(\w*) ?\{", line)
         if re.match(r"(?:impl\b|pub trait )", line):
             owner, inside = owner_of(line), True
         elif line == "}":

@@ -325,7 +325,7 @@ def clauses_of(crate):
         for head in re.split(r"^\s*(?=(?:pub(?:\(\w+\))? )?fn )", read(f), flags=re.M)[1:]:
             name = re.match(r"(?:pub(?:\(\w+\))? )?fn (\w+)", head)
             if name:
-                clauses.setdefault(name[1], set()).update(re.findall(r"\bensures (\w+) \{", head))
+                clauses.setdefault(name[1], set()).update(re.findall(r"\bensures\*? (\w+) \{", head))
     return clauses
 
 
