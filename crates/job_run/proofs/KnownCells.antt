@@ -132,3 +132,12 @@ pub knows-none : (soles : List (Option ℕ)) (row k : ℕ) → list_any (is_sole
 knows-none [] row k none = refl
 knows-none (sole ∷ soles) row zero none = (neither (is_sole row sole) (list_any (is_sole row) soles) none).0
 knows-none (sole ∷ soles) row (suc k) none = knows-none soles row k ((neither (is_sole row sole) (list_any (is_sole row) soles) none).1)
+
+-- one that alone makes up some cell knows some
+pub knows-some : (soles : List (Option ℕ)) (row : ℕ) → list_any (is_sole row) soles ≡ true → (k : ℕ) × (is_known soles row k ≡ true)
+knows-some [] row any = absurd cc
+knows-some (sole ∷ soles) row any =
+    elim (is_sole row sole) as (λ b. is_sole row sole ≡ b → (b || list_any (is_sole row) soles) ≡ true → (k : ℕ) × (is_known (sole ∷ soles) row k ≡ true)) [
+      | true ↦ λ same any. (0, same)
+      | false ↦ λ other any. (let rest = knows-some soles row any in (suc rest.0, rest.1))
+    ] refl any

@@ -69,7 +69,7 @@ use Rattle.job_inputs.specs.SoundJobs.{IsSoundJob}
 use Rattle.cell_protection.specs.declared.protection.ProtectionOutcome.TheVariants as protection
 use Rattle.job_run.specs.Endings.{IsHidingRelease, IsReleaseBy}
 use Rattle.job_run.specs.GuardedReleases.{HasNoGuard, IsGuardedRelease, guarded_puts}
-use Rattle.job_run.specs.Promise.{AreCellsOf, AreRounded, AreTablesBy, CantBeGuarded, CantBeProtected, CantBeRounded, GuardedTables, GuardsEachCell, HidingTables, IsHiddenForOthers, IsPromiseOf, IsSensitive, MayBeHidden, PromisedTables, ProtectedTables, ProtectsEachCell, RoundedTables, StaysOpen, knows_cell, unknown_to, without}
+use Rattle.job_run.specs.Promise.{AreRounded, AreTablesBy, AreTablesOf, CantBeGuarded, CantBeProtected, CantBeRounded, GuardedTables, GuardsEachCell, HasCellsByRules, HidingTables, IsHiddenForOthers, IsPermittedSet, IsPromiseOf, IsSensitive, IsTrueOf, ProtectedTables, ProtectsEachCell, RoundedTables, StaysOpen, knows_cell, unknown_to, without}
 use Rattle.job_run.specs.Protections.{IsProtectionFor, IsSuppressedRelease}
 use Rattle.job_run.specs.Puts.{AllWhole, Put}
 use Rattle.job_run.specs.PutReleases.{Releases}
@@ -83,10 +83,10 @@ use Rattle.job_run.specs.declared.report.Report.TheVariants as report
 use Rattle.job_run.specs.declared.report.Summary.{Summary}
 use Rattle.job_run.proofs.GuardingTables.{by-alone, free-permitted}
 use Rattle.job_run.proofs.JobsRead.{described-read, inputs-read, job-read, no-fault}
-use Rattle.job_run.proofs.KnownCells.{known-same, unknown-same}
+use Rattle.job_run.proofs.KnownCells.{known-same, knows-some, unknown-same}
 use Rattle.job_run.proofs.Outcomes.{ok-and}
-use Rattle.job_run.proofs.PromisedCells.{Adds, HasCell, IsOf, adds-hold, cell-at, hold-adds, open-protects, settled-at, stays-open}
-use Rattle.job_run.proofs.PromisedTables.{as-many-settled, each-needed, may-hide, not-each, permitted-so, protects-each, tables-show, viewed-at}
+use Rattle.job_run.proofs.PromisedCells.{Adds, HasCell, IsOf, adds-hold, as-many-settled, cell-at, hold-adds, open-protects, settled-at, stays-open}
+use Rattle.job_run.proofs.PromisedTables.{each-needed, not-each, permitted-set, permitted-so, protects-each, tables-show, viewed-at}
 use Rattle.job_run.proofs.PutFiles.{AreHeld, all-held, guarded-names, names, no-file-to-round, ok-same, plain-names, some-before}
 use Rattle.job_run.proofs.SameSystem.{as-many-cells, its-relations}
 use Rattle.job_run.proofs.ShownLaws.{truth-at}
@@ -116,7 +116,7 @@ settled-so rules of priors made h =
     let same : map (λ (cell : Figures × Prior). settled_cell rules cell.0 cell.1) (zip of priors) ≡ made = cc in
     sym same
 
-are-cells : (files : Files) (settled : SettledInputs) → AreRead files settled → AreCellsOf settled
+are-cells : (files : Files) (settled : SettledInputs) → AreRead files settled → HasCellsByRules settled
 are-cells files settled are = settled-so settled.inputs.described.job.rules (figures settled.inputs) settled.priors settled.cells
     (no-fault prior_fault (settle_of settled.inputs.described.job.rules (figures settled.inputs) settled.priors) settled.cells are.cells)
 
@@ -160,8 +160,15 @@ many-settled files settled are =
     ∙ ap (λ (all : List Figures). length all) (firsts-zip (figures inputs) settled.priors priors)
     ∙ many
 
-one-each : (files : Files) (settled : SettledInputs) (system : System) (its : List Cell) → AreRead files settled → IsOf settled system its → length its ≡ system.cells
-one-each files settled system its are is = sym (as-many-settled settled system its is) ∙ many-settled files settled are ∙ sym (as-many-cells settled.inputs system is.system_is)
+-- the cells of a protection are those of the inputs that were read
+is-of : (files : Files) (settled : SettledInputs) (outcome : _) → AreRead files settled → (its : IsProtectionFor settled outcome) → IsOf settled its.system its.job.cells
+is-of files settled outcome are its =
+    let system_is : IsSystemIn settled.inputs its.system = (its.job.book, its.job_is.book, its.system_is) in
+    record {
+      system_is = system_is;
+      cells_are = its.job_is.cells;
+      one_each = sym (as-many-settled settled its.job.cells its.job_is.cells) ∙ many-settled files settled are ∙ sym (as-many-cells settled.inputs its.system system_is);
+    }
 
 -- ---- what was put
 
@@ -175,15 +182,11 @@ held-puts files out name settled puts old new read called whole is =
 
 -- ---- a release that hides
 
--- the cells of a protection are those of the inputs
-is-of : (settled : SettledInputs) (outcome : _) (its : IsProtectionFor settled outcome) → IsOf settled its.system its.job.cells
-is-of settled outcome its = record { system_is = (its.job.book, its.job_is.book, its.system_is); cells_are = its.job_is.cells }
-
 protected-tables : (files out : Files) (name : List ℕ) (settled : SettledInputs) (release : Release) (old new : TrayState) → settled_of purpose.Release files name ≡ Ok settled → IsSoundJob settled.inputs.described
     → AllWhole release.puts old new → new.files ≡ Some out → settled.inputs.described.job.contributors ≡ None → IsSuppressedRelease settled release → ProtectedTables settled out
 protected-tables files out name settled release old new read sound whole told none is =
     let its = is.protects in
-    let of : IsOf settled its.system its.job.cells = is-of settled _ its in
+    let of : IsOf settled its.system its.job.cells = is-of files settled _ (are-read files name settled read) its in
     let flags : List Bool = is.hidden_set.hidden.flags in
     let set = its.comes_to.verdict.0 in
     let shown : Name → Option ℤ = shown_in settled.inputs flags in
@@ -191,12 +194,12 @@ protected-tables files out name settled release old new read sound whole told no
     let held = held-puts files out name settled (puts_of settled.inputs shown is.certificate) old new read (plain-names settled.inputs shown is.certificate sound.job.outputs none) put told in
     record {
       hidden = flags;
-      release = record {
-        shown = tables-show out settled.inputs shown held.1;
-        may = may-hide settled its.system its.job.cells flags of set.each_flag set.protecting.permitted;
+      tables = record {
+        shown = tables-show out settled.inputs shown sound.job.outputs held.1;
+        permitted = permitted-set settled its.system its.job.cells flags of set.each_flag set.protecting.permitted;
         protects = protects-each settled its.system its.job.cells flags of set.protecting.protects;
       };
-      needed = λ number hidden. each-needed settled its.system its.job.cells flags _ is.certificate.needs number of (one-each files settled its.system its.job.cells (are-read files name settled read) of) set.each_flag its.comes_to.verdict.1 hidden;
+      needed = each-needed settled its.system its.job.cells flags _ is.certificate.needs of set.each_flag its.comes_to.verdict.1;
     }
 
 -- ---- a release that guards
@@ -254,16 +257,16 @@ inside-flags (flag ∷ flags) zero is = omega arith
 inside-flags (flag ∷ flags) (suc number) is = let more = inside-flags flags number is in omega (arith, more)
 
 -- without an extra cell the set doesn't guard
-extra-needed : (settled : SettledInputs) (release : Release) (is : IsGuardedRelease settled release) (number : ℕ) → length is.guards.protects.job.cells ≡ is.guards.protects.system.cells
+extra-needed : (files : Files) (settled : SettledInputs) (release : Release) → AreRead files settled → (is : IsGuardedRelease settled release) (number : ℕ)
     → is_hidden (hide_cells is.hidden_set.hidden.flags is.guarded.extra.cells) number ≡ true → is_hidden is.hidden_set.hidden.flags number ≡ false
     → ¬ GuardsEachCell settled (without (hide_cells is.hidden_set.hidden.flags is.guarded.extra.cells) number)
-extra-needed settled release is number each hidden shown guards =
+extra-needed files settled release are is number hidden shown guards =
     let inputs : Inputs = settled.inputs in
     let its = is.guards.protects in
     let by = is.guards.guards in
     let own = is.guards.guards.comes_to.guarding.guarding in
     let soles = is.guards.guards.soles in
-    let of : IsOf settled its.system its.job.cells = is-of settled _ its in
+    let of : IsOf settled its.system its.job.cells = is-of files settled _ are its in
     let first : List Bool = is.hidden_set.hidden.flags in
     let extras : List ℕ = is.guarded.extra.cells in
     let larger : List Bool = hide_cells first extras in
@@ -275,23 +278,23 @@ extra-needed settled release is number each hidden shown guards =
     let says : AttackSays its.job.cells soles attack = attack_says its.job.cells soles attack need.on in
     let at = settled-at settled its.system its.job.cells attack.cell says.primary.cell of says.primary.found in
     let unknown : knows_cell inputs attack.row attack.cell ≡ false = sym (known-same inputs its.job.book soles attack.row attack.cell its.job_is.book by.each_named by.are_soles) ∙ says.unknown in
-    let asked : attack.cell < its.system.cells = omega (arith, each, slice_get_within its.job.cells attack.cell says.primary.cell says.primary.found) in
+    let asked : attack.cell < its.system.cells = omega (arith, of.one_each, slice_get_within its.job.cells attack.cell says.primary.cell says.primary.found) in
     let left : List Bool = without larger found.0.subject in
     let open_ : StaysOpen settled (unknown_to inputs attack.row left) attack.cell (view_of_cell says.primary.cell) attack.side =
     subst (λ (n : ℕ). GuardsEachCell settled (without larger n)) (sym found.2) guards attack.row attack.cell (view_of_cell says.primary.cell) attack.side (record { found = at; kind = says.primary.is_kind }) unknown in
     let protects : Protects its.system its.job.cells (without_known soles attack.row left) attack.cell attack.side =
     subst (λ (flags : List Bool). Protects its.system its.job.cells flags attack.cell attack.side) (sym (unknown-same inputs its.job.book soles attack.row left its.job_is.book by.each_named by.are_soles))
     (open-protects settled its.system its.job.cells (unknown_to inputs attack.row left) attack.cell (view_of_cell says.primary.cell) attack.side of at open_) in
-    no_world its.system its.job.cells (without_known soles attack.row left) attack.cell attack.side found.0.multipliers each asked need.refutes protects
+    no_world its.system its.job.cells (without_known soles attack.row left) attack.cell attack.side found.0.multipliers of.one_each asked need.refutes protects
 
 -- against each contributor that doesn't know it a sensitive cell stays open
-each-guarded : (settled : SettledInputs) (release : Release) (is : IsGuardedRelease settled release) → GuardsEachCell settled (hide_cells is.hidden_set.hidden.flags is.guarded.extra.cells)
-each-guarded settled release is row number one side sensitive unknown =
+each-guarded : (files : Files) (settled : SettledInputs) (release : Release) → AreRead files settled → (is : IsGuardedRelease settled release) → GuardsEachCell settled (hide_cells is.hidden_set.hidden.flags is.guarded.extra.cells)
+each-guarded files settled release are is row number one side sensitive unknown =
     let inputs : Inputs = settled.inputs in
     let its = is.guards.protects in
     let by = is.guards.guards in
     let soles = is.guards.guards.soles in
-    let of : IsOf settled its.system its.job.cells = is-of settled _ its in
+    let of : IsOf settled its.system its.job.cells = is-of files settled _ are its in
     let larger : List Bool = hide_cells is.hidden_set.hidden.flags is.guarded.extra.cells in
     let at = cell-at settled its.system its.job.cells number one of sensitive.found in
     let kind = ap (λ (c : SettledCell). c.kind) at.view ∙ sensitive.kind in
@@ -308,28 +311,29 @@ guarded-tables files out name settled release old new read sound whole told is =
     let by = is.guards.guards in
     let own = is.guards.guards.comes_to.guarding.guarding in
     let set = is.guards.protects.comes_to.verdict.0 in
-    let of : IsOf settled its.system its.job.cells = is-of settled _ its in
+    let are : AreRead files settled = are-read files name settled read in
+    let of : IsOf settled its.system its.job.cells = is-of files settled _ are its in
     let first : List Bool = is.hidden_set.hidden.flags in
     let extras : List ℕ = is.guarded.extra.cells in
     let larger : List Bool = hide_cells first extras in
-    let each : length its.job.cells ≡ its.system.cells = one-each files settled its.system its.job.cells (are-read files name settled read) of in
     let shown : Name → Option ℤ = shown_in inputs is.guarded.hidden.flags in
     let puts : List Put = guarded_puts inputs is.guards.line.file shown is.certificate is.guarded.extra in
     let held : AreHeld out puts = held-puts files out name settled puts old new read (guarded-names inputs is.guards.line shown is.certificate is.guarded.extra sound.job.outputs is.guards.named)
     (subst (λ (all : List Put). AllWhole all old new) is.puts whole) told in
     record {
       hidden = larger;
-      release = record {
-        shown = tables-show out inputs (shown_in inputs larger) (subst (λ (flags : List Bool). AreHeld out (tables_from inputs (shown_in inputs flags) 0 inputs.described.job.tables inputs.described.job.outputs)) by.comes_to.flags_are held.1.1);
-        may = may-hide settled its.system its.job.cells larger of (length-hide_cells first extras ∙ set.each_flag) (free-permitted its.job.cells first extras set.each_flag own.are_free set.protecting.permitted);
+      tables = record {
+        shown = tables-show out inputs (shown_in inputs larger) sound.job.outputs (subst (λ (flags : List Bool). AreHeld out (tables_from inputs (shown_in inputs flags) 0 inputs.described.job.tables inputs.described.job.outputs)) by.comes_to.flags_are held.1.1);
+        permitted = permitted-set settled its.system its.job.cells larger of (length-hide_cells first extras ∙ set.each_flag) (free-permitted its.job.cells first extras set.each_flag own.are_free set.protecting.permitted);
         protects = protects-each settled its.system its.job.cells larger of (λ number cell side at primary. protects_more its.system its.job.cells first larger number side (within_cells first extras) (set.protecting.protects number cell side at primary));
       };
-      guards = each-guarded settled release is;
-      first = first;
-      first_hidden = (within_cells first extras).hides;
-      first_protects = protects-each settled its.system its.job.cells first of set.protecting.protects;
-      first_needed = λ number hidden. each-needed settled its.system its.job.cells first _ is.certificate.needs number of each set.each_flag its.comes_to.verdict.1 hidden;
-      others_needed = λ number hidden shown. extra-needed settled release is number each hidden shown;
+      guards = each-guarded files settled release are is;
+      core = first;
+      core_within = (within_cells first extras).hides;
+      core_permitted = permitted-set settled its.system its.job.cells first of set.each_flag set.protecting.permitted;
+      core_protects = protects-each settled its.system its.job.cells first of set.protecting.protects;
+      core_needed = each-needed settled its.system its.job.cells first _ is.certificate.needs of set.each_flag its.comes_to.verdict.1;
+      extra_needed = λ number hidden shown. extra-needed files settled release are is number hidden shown;
     }
 
 -- ---- a release that rounds
@@ -337,7 +341,7 @@ guarded-tables files out name settled release old new read sound whole told is =
 -- a rounding for the inputs is one of their cells
 rounded-so : (inputs : Inputs) (base : ℤ) (values : List ℤ) → IsRoundingFor inputs base values → AreRounded inputs base values
 rounded-so inputs base values is = record {
-  each = is.rounding.each ∙ as-many-cells inputs is.system is.system_is;
+  one_each = is.rounding.each ∙ as-many-cells inputs is.system is.system_is;
   adjacent = λ number name at. (
       let inside : number < is.system.cells = omega (arith, as-many-cells inputs is.system is.system_is, slice_get_within (cells inputs) number name at) in
       subst (λ (truth : ℤ). IsAdjacent base truth (number_at values number)) (truth-at _ (cells inputs) number name at) (is.rounding.adjacent number inside));
@@ -349,7 +353,7 @@ rounding-so inputs system base values is are = record {
   system = system;
   system_is = is;
   rounding = record {
-    each = are.each ∙ sym (as-many-cells inputs system is);
+    each = are.one_each ∙ sym (as-many-cells inputs system is);
     adjacent = λ number inside. (
         let at = read-at (cells inputs) number [] (omega (arith, inside, as-many-cells inputs system is)) in
         subst (λ (truth : ℤ). IsAdjacent base truth (number_at values number)) (sym (truth-at _ (cells inputs) number _ at)) (are.adjacent number _ at));
@@ -365,7 +369,7 @@ rounded-tables files out name settled release base old new read sound whole told
     let none = no-file-to-round inputs.described.job.method inputs.described.bound.decimals base inputs.described.job.contributors rounds sound.job.contributors in
     let put : AllWhole (puts_of inputs shown (rounded_certificate inputs)) old new = subst (λ (puts : List Put). AllWhole puts old new) is.puts whole in
     let held = held-puts files out name settled (puts_of inputs shown (rounded_certificate inputs)) old new read (plain-names inputs shown (rounded_certificate inputs) sound.job.outputs none) put told in
-    record { values = is.values; rounded = rounded-so inputs base is.values is.rounding; shown = tables-show out inputs shown held.1 }
+    record { values = is.values; rounded = rounded-so inputs base is.values is.rounding; shown = tables-show out inputs shown sound.job.outputs held.1 }
 
 -- ---- any release
 
@@ -379,44 +383,48 @@ tables-by : (files out : Files) (name : List ℕ) (summary : Summary) (old new :
 tables-by files out name summary old new has told None hides is = hiding-tables files out name summary old new has told has.settled.inputs.described.job.contributors refl is
 tables-by files out name summary old new has told (Some base) rounds is = rounded-tables files out name has.settled has.release base old new has.read has.sound has.put told rounds is
 
-promised-tables : (files out : Files) (name : List ℕ) (summary : Summary) (old new : TrayState) → Releases files name summary old new → new.files ≡ Some out → IsOkAnd (settled_of purpose.Release files name) (λ settled. PromisedTables settled out)
+-- what is said of settled inputs that were read is true of what was read
+true-of : (Says : SettledInputs → Type 0) (files : Files) (name : List ℕ) (settled : SettledInputs) → settled_of purpose.Release files name ≡ Ok settled → Says settled → IsTrueOf (settled_of purpose.Release files name) Says
+true-of Says files name settled read says =
+    let true_of : HasCellsByRules settled × Says settled = (are-cells files settled (are-read files name settled read), says) in
+    subst (λ (o : Result SettledInputs Fault). IsOkAnd o (λ (s : SettledInputs). HasCellsByRules s × Says s)) (sym read) true_of
+
+promised-tables : (files out : Files) (name : List ℕ) (summary : Summary) (old new : TrayState) → Releases files name summary old new → new.files ≡ Some out → IsTrueOf (settled_of purpose.Release files name) (λ settled. AreTablesOf settled out)
 promised-tables files out name summary old new has told =
-    let promised : PromisedTables has.settled out = record {
-      are_cells = are-cells files has.settled (are-read files name has.settled has.read);
-      release = tables-by files out name summary old new has told (job_base has.settled.inputs.described) refl has.is_release;
-    } in
-    subst (λ (o : Result SettledInputs Fault). IsOkAnd o (λ settled. PromisedTables settled out)) (sym has.read) promised
+    true-of (λ settled. AreTablesOf settled out) files name has.settled has.read (tables-by files out name summary old new has told (job_base has.settled.inputs.described) refl has.is_release)
 
 -- ---- no release
 
-cant-protect : (settled : SettledInputs) (number : ℕ) (side : Side) (multipliers : Multipliers) → IsProtectionFor settled (protection.Cannot (record { cell = number; side = side; multipliers = multipliers })) → CantBeProtected settled number side
-cant-protect settled number side multipliers its =
-    let of : IsOf settled its.system its.job.cells = is-of settled _ its in
+cant-protect : (files : Files) (settled : SettledInputs) (number : ℕ) (side : Side) (multipliers : Multipliers) → AreRead files settled → IsProtectionFor settled (protection.Cannot (record { cell = number; side = side; multipliers = multipliers })) → CantBeProtected settled number side
+cant-protect files settled number side multipliers are its =
+    let of : IsOf settled its.system its.job.cells = is-of files settled _ are its in
     let primary = asked_primary its.job.cells its.comes_to.first.place (number, side) its.comes_to.first.stands in
     let at = settled-at settled its.system its.job.cells number primary.cell of primary.found in
     record {
       cell = view_of_cell primary.cell;
       sensitive = record { found = at; kind = primary.is_kind };
-      none = λ hidden may open_. its.comes_to.none_protects hidden (may.each ∙ as-many-settled settled its.system its.job.cells of) (permitted-so settled its.system its.job.cells hidden of may)
+      none = λ hidden set open_. its.comes_to.none_protects hidden (set.one_each ∙ as-many-settled settled its.job.cells of.cells_are) (permitted-so settled its.system its.job.cells hidden of set)
           (open-protects settled its.system its.job.cells hidden number (view_of_cell primary.cell) side of at open_);
     }
 
-cant-guard : (settled : SettledInputs) (row number : ℕ) (side : Side) (multipliers : Multipliers) → HasNoGuard settled row number side multipliers → CantBeGuarded settled row number side
-cant-guard settled row number side multipliers has =
+cant-guard : (files : Files) (settled : SettledInputs) (row number : ℕ) (side : Side) (multipliers : Multipliers) → AreRead files settled → HasNoGuard settled row number side multipliers → CantBeGuarded settled row number side
+cant-guard files settled row number side multipliers are has =
     let its = has.guards.protects in
     let by = has.guards.guards in
     let soles = by.soles in
-    let of : IsOf settled its.system its.job.cells = is-of settled _ its in
+    let of : IsOf settled its.system its.job.cells = is-of files settled _ are its in
     let attack : Attack = record { row = row; cell = number; side = side } in
     let says : AttackSays its.job.cells soles attack = attack_says its.job.cells soles attack (attack_at its.job.cells soles (attacks_of its.job.cells soles) by.comes_to.place attack (attacks_are its.job.cells soles) by.comes_to.stands) in
     let at = settled-at settled its.system its.job.cells number says.primary.cell of says.primary.found in
+    let some = knows-some soles row says.makes_up in
     record {
       cell = view_of_cell says.primary.cell;
       sensitive = record { found = at; kind = says.primary.is_kind };
       unknown = sym (known-same settled.inputs its.job.book soles row number its.job_is.book by.each_named by.are_soles) ∙ says.unknown;
-      none = λ hidden may open_.
-          (let long = may.each ∙ as-many-settled settled its.system its.job.cells of in
-          let within = in_full its.job.cells hidden long (permitted-so settled its.system its.job.cells hidden of may) in
+      knows_some = (some.0, sym (known-same settled.inputs its.job.book soles row some.0 its.job_is.book by.each_named by.are_soles) ∙ some.1);
+      none = λ hidden set open_.
+          (let long = set.one_each ∙ as-many-settled settled its.job.cells of.cells_are in
+          let within = in_full its.job.cells hidden long (permitted-so settled its.system its.job.cells hidden of set) in
           let protects : Protects its.system its.job.cells (without_known soles row hidden) number side =
           subst (λ (flags : List Bool). Protects its.system its.job.cells flags number side) (sym (unknown-same settled.inputs its.job.book soles row hidden its.job_is.book by.each_named by.are_soles))
           (open-protects settled its.system its.job.cells (unknown_to settled.inputs row hidden) number (view_of_cell says.primary.cell) side of at open_) in
@@ -430,9 +438,13 @@ cant-round settled has = record {
   none = λ values are. has.none values (rounding-so settled.inputs has.system has.base values has.system_is are);
 }
 
-ok-more : {A F : Type 0} (P Q : A → Type 0) (o : Result A F) → ((x : A) → P x → Q x) → IsOkAnd o P → IsOkAnd o Q
-ok-more P Q (Ok x) more h = more x h
-ok-more P Q (Err f) more h = h
+-- what follows for settled inputs that were read from what is known of them is true of what was read
+true-by : (P Says : SettledInputs → Type 0) (files : Files) (name : List ℕ) → ((settled : SettledInputs) → AreRead files settled → P settled → Says settled) → (read : Result SettledInputs Fault) → settled_of purpose.Release files name ≡ read
+    → IsOkAnd read P → IsTrueOf read Says
+true-by P Says files name more (Ok settled) is known =
+    let are : AreRead files settled = are-read files name settled is in
+    (are-cells files settled are, more settled are known)
+true-by P Says files name more (Err why) is known = known
 
 -- ---- the promise
 
@@ -443,11 +455,13 @@ promise-kept name answer old new before after is fs held out told = by answer re
     by : (one : Report) → answer ≡ one → AgreesWith one (settled_of purpose.Release fs name) → IsPromiseOf one (settled_of purpose.Release fs name) out
     by (report.Released summary) same agrees = promised-tables fs out name summary before after (is.released fs held summary same) told
     by (report.Cannot number side multipliers) same agrees =
-        ok-more (λ settled. IsProtectionFor settled (protection.Cannot (record { cell = number; side = side; multipliers = multipliers }))) (λ settled. CantBeProtected settled number side) (settled_of purpose.Release fs name)
-        (λ settled. cant-protect settled number side multipliers) agrees
+        true-by (λ settled. IsProtectionFor settled (protection.Cannot (record { cell = number; side = side; multipliers = multipliers }))) (λ settled. CantBeProtected settled number side) fs name
+        (λ settled are its. cant-protect fs settled number side multipliers are its) (settled_of purpose.Release fs name) refl agrees
     by (report.CannotAgainst row number side multipliers) same agrees =
-        ok-more (λ settled. HasNoGuard settled row number side multipliers) (λ settled. CantBeGuarded settled row number side) (settled_of purpose.Release fs name) (λ settled. cant-guard settled row number side multipliers) agrees
-    by report.NoRounding same agrees = ok-more HasNoRounding CantBeRounded (settled_of purpose.Release fs name) cant-round agrees
+        true-by (λ settled. HasNoGuard settled row number side multipliers) (λ settled. CantBeGuarded settled row number side) fs name
+        (λ settled are has. cant-guard fs settled row number side multipliers are has) (settled_of purpose.Release fs name) refl agrees
+    by report.NoRounding same agrees =
+        true-by HasNoRounding CantBeRounded fs name (λ settled are has. cant-round settled has) (settled_of purpose.Release fs name) refl agrees
     by report.Accepted same agrees = tt
     by (report.Intervals number) same agrees = tt
     by (report.Audited primary exposed) same agrees = tt

@@ -1,7 +1,9 @@
 -- What protects the cells of a system protects them as they are settled, and the other way round.
 use Rattle.std.proofs.Common.{◌≡◌, ℕ, zero, suc, ◌<◌, Bool, false, List, [], ◌∷◌, length, map, slice_get, All, Some, Option, arith, refl, ap, sym, subst, ◌∙◌, ℤ, pos, neg_ℤ, ◌-ℤ◌, ◌≤ℤ◌, ◌*ℤ◌}
 use Rattle.std.proofs.lemmas.Int.{ints}
+use Rattle.std.proofs.lemmas.List.{length-map}
 use Rattle.std.proofs.lemmas.List.Elements.{All-nil, All-cons, All-head, All-tail}
+use Rattle.std.proofs.lemmas.Option.{slice_get_within}
 use Rattle.sdc_base.specs.HiddenSets.{is_hidden}
 use Rattle.sdc_base.specs.Relations.{Sum, relations_among}
 use Rattle.sdc_base.specs.Systems.{Numbers, HoldOn, form}
@@ -16,9 +18,9 @@ use Rattle.relations.specs.Holding.{sum_in}
 use Rattle.apriori.specs.Settling.{SettledCell, view_of_cell}
 use Rattle.job_inputs.specs.Cells.{cells as names}
 use Rattle.job_inputs.specs.SettledJobs.{SettledInputs}
-use Rattle.job_run.specs.Promise.{HasStatedBounds, IsCompleteTable, LiesOff, StaysOpen}
+use Rattle.job_run.specs.Promise.{IsCompleteTable, IsWithinStatedBounds, ReachesLevel, StaysOpen}
 use Rattle.job_run.specs.Roundings.{IsSystemIn}
-use Rattle.job_run.proofs.SameSystem.{as-many-cells, its-relations}
+use Rattle.job_run.proofs.SameSystem.{its-relations}
 
 -- ---- cells
 
@@ -38,10 +40,20 @@ viewed [] number settled at = absurd cc
 viewed (one ∷ cells) zero settled at = let same : view_of_cell one ≡ settled = cc in record { cell = one; found = refl; view = same }
 viewed (one ∷ cells) (suc number) settled at = let is = viewed cells number settled at in record { cell = is.cell; found = is.found; view = is.view }
 
--- the system and its cells are those of settled inputs
+-- the system and its cells are those of settled inputs, one for each
 pub record IsOf (settled : SettledInputs) (system : System) (cells : List Cell) : Type 0 where
   pub system_is : IsSystemIn settled.inputs system
   pub cells_are : map view_of_cell cells ≡ settled.cells
+  pub one_each : length cells ≡ system.cells
+
+-- the entry at a place of a list
+pub entry-in : {X : Type 0} (all : List X) (k : ℕ) → k < length all → (x : X) × (slice_get all k ≡ Some x)
+entry-in [] k within = absurd (omega (arith, within))
+entry-in (one ∷ all) zero within = (one, refl)
+entry-in (one ∷ all) (suc k) within = entry-in all k (omega (arith, within))
+
+pub as-many-settled : (settled : SettledInputs) (cells : List Cell) → map view_of_cell cells ≡ settled.cells → length settled.cells ≡ length cells
+as-many-settled settled cells are = ap (λ (all : List SettledCell). length all) (sym are) ∙ length-map cells view_of_cell
 
 pub settled-at : (settled : SettledInputs) (system : System) (cells : List Cell) (number : ℕ) (cell : Cell) → IsOf settled system cells → slice_get cells number ≡ Some cell → slice_get settled.cells number ≡ Some (view_of_cell cell)
 settled-at settled system cells number cell is at = ap (λ (all : List SettledCell). slice_get all number) (sym is.cells_are) ∙ get-view cells number cell at
@@ -73,33 +85,35 @@ adds-hold numbers (r ∷ relations) adds =
 
 pub is-complete : (settled : SettledInputs) (system : System) (cells : List Cell) (flags : List Bool) (den : ℤ) (moves : Numbers) → IsOf settled system cells → IsWorld system cells flags den moves → IsCompleteTable settled flags den moves
 is-complete settled system cells flags den moves is world = record {
-  den_above = world.positive;
-  shown_stay = λ cell inside shown. world.shown_stay cell (omega (arith, inside, as-many-cells settled.inputs system is.system_is)) shown;
+  positive = world.positive;
+  shown_stay = λ number one at shown. world.shown_stay number (omega (arith, slice_get_within settled.cells number one at, as-many-settled settled cells is.cells_are, is.one_each)) shown;
   add_up = subst (All (Adds moves)) (its-relations settled.inputs system is.system_is) (hold-adds moves system.relations world.relations_hold);
-  bounds_hold = λ number one at. (
+  within_bounds = λ number one at. (
       let its = cell-at settled system cells number one is at in
       let bounds = world.bounds_hold number its.cell its.found in
-      let has : HasStatedBounds (view_of_cell its.cell) den (moves number) = record { low = bounds.from_low; high = bounds.to_high } in
-      subst (λ (c : SettledCell). HasStatedBounds c den (moves number)) its.view has);
+      let within : IsWithinStatedBounds (view_of_cell its.cell) den (moves number) = record { at_least = bounds.from_low; at_most = bounds.to_high } in
+      subst (λ (c : SettledCell). IsWithinStatedBounds c den (moves number)) its.view within);
 }
 
 pub is-world : (settled : SettledInputs) (system : System) (cells : List Cell) (flags : List Bool) (den : ℤ) (moves : Numbers) → IsOf settled system cells → IsCompleteTable settled flags den moves → IsWorld system cells flags den moves
 is-world settled system cells flags den moves is table = record {
-  positive = table.den_above;
-  shown_stay = λ cell inside shown. table.shown_stay cell (omega (arith, inside, as-many-cells settled.inputs system is.system_is)) shown;
+  positive = table.positive;
+  shown_stay = λ number inside shown. (
+      let found = entry-in cells number (omega (arith, inside, is.one_each)) in
+      table.shown_stay number (view_of_cell found.0) (settled-at settled system cells number found.0 is found.1) shown);
   relations_hold = adds-hold moves system.relations (subst (All (Adds moves)) (sym (its-relations settled.inputs system is.system_is)) table.add_up);
   bounds_hold = λ number cell at. (
-      let has = table.bounds_hold number (view_of_cell cell) (settled-at settled system cells number cell is at) in
-      record { from_low = has.low; to_high = has.high });
+      let within = table.within_bounds number (view_of_cell cell) (settled-at settled system cells number cell is at) in
+      record { from_low = within.at_least; to_high = within.at_most });
 }
 
-reach-off : (side : Side) (cell : Cell) (den move : ℤ) → Reaches side cell den move → LiesOff side (view_of_cell cell) den move
-reach-off Above cell den move reaches = reaches
-reach-off Below cell den move reaches = reaches
+reaches-level : (side : Side) (cell : Cell) (den move : ℤ) → Reaches side cell den move → ReachesLevel side (view_of_cell cell) den move
+reaches-level Above cell den move reaches = reaches
+reaches-level Below cell den move reaches = reaches
 
-off-reach : (side : Side) (cell : Cell) (den move : ℤ) → LiesOff side (view_of_cell cell) den move → Reaches side cell den move
-off-reach Above cell den move off = off
-off-reach Below cell den move off = off
+level-reached : (side : Side) (cell : Cell) (den move : ℤ) → ReachesLevel side (view_of_cell cell) den move → Reaches side cell den move
+level-reached Above cell den move off = off
+level-reached Below cell den move off = off
 
 some-same : {A : Type 0} {a b : A} → ◌≡◌ {A = Option A} (Some a) (Some b) → a ≡ b
 some-same {A} {a} {b} is = let same : a ≡ b = cc in same
@@ -114,7 +128,7 @@ stays-open settled system cells flags number one side is at protects =
       den,
       moves,
       is-complete settled system cells flags den moves is protects.3,
-      subst (λ (c : SettledCell). LiesOff side c den (moves number)) same (reach-off side protects.2 den (moves number) protects.5),
+      subst (λ (c : SettledCell). ReachesLevel side c den (moves number)) same (reaches-level side protects.2 den (moves number) protects.5),
     )
 
 -- and the other way round
@@ -122,11 +136,11 @@ pub open-protects : (settled : SettledInputs) (system : System) (cells : List Ce
     → StaysOpen settled flags number one side → Protects system cells flags number side
 open-protects settled system cells flags number one side is at open_ =
     let its = cell-at settled system cells number one is at in
-    let off : LiesOff side (view_of_cell its.cell) open_.0 (open_.1 number) = subst (λ (c : SettledCell). LiesOff side c open_.0 (open_.1 number)) (sym its.view) open_.3 in (
+    let off : ReachesLevel side (view_of_cell its.cell) open_.0 (open_.1 number) = subst (λ (c : SettledCell). ReachesLevel side c open_.0 (open_.1 number)) (sym its.view) open_.3 in (
       open_.0,
       open_.1,
       its.cell,
       is-world settled system cells flags open_.0 open_.1 is open_.2,
       its.found,
-      off-reach side its.cell open_.0 (open_.1 number) off,
+      level-reached side its.cell open_.0 (open_.1 number) off,
     )

@@ -2,7 +2,6 @@
 use Rattle.std.proofs.Common.{◌≡◌, ◌≢◌, ◌⊎◌, inl, inr, ℕ, zero, suc, ◌+◌, ◌<◌, ◌==◌, ◌&&◌, ◌||◌, not, Bool, true, false, if◌then◌else◌, List, [], ◌∷◌, length, map, slice_get, All, Option, None, Some, arith, refl, ap, sym, subst, ◌∙◌, ℤ}
 use Rattle.std.specs.List.{list_any, AllByRecursion}
 use Rattle.std.proofs.lemmas.Bool.Decides.{Decides-eqb}
-use Rattle.std.proofs.lemmas.List.{length-map, length-set}
 use Rattle.std.proofs.lemmas.Option.{slice_get_within, slice_get-get_or}
 use Rattle.sdc_base.proofs.GrowingLists.{read-at}
 use Rattle.sdc_base.proofs.WeakDual.{All-found}
@@ -29,9 +28,9 @@ use Rattle.office_io.specs.Files.{Files}
 use Rattle.job_inputs.specs.SettledJobs.{SettledInputs}
 use Rattle.job_inputs.specs.Tables.{names_of}
 use Rattle.job_inputs.specs.declared.inputs.Inputs.{Inputs}
-use Rattle.job_run.specs.Promise.{TablesShow, IsSensitive, MayBeHidden, ProtectsEachCell, IsHiddenForOthers, without}
+use Rattle.job_run.specs.Promise.{TablesShow, IsSensitive, IsPermittedSet, NeedsEachCell, ProtectsEachCell, IsHiddenForOthers, without}
 use Rattle.job_run.specs.Releases.{table_of, tables_from}
-use Rattle.job_run.proofs.PromisedCells.{HasCell, IsOf, cell-at, settled-at, stays-open, open-protects}
+use Rattle.job_run.proofs.PromisedCells.{HasCell, IsOf, as-many-settled, cell-at, entry-in, settled-at, stays-open, open-protects}
 use Rattle.job_run.proofs.PutFiles.{AreHeld}
 
 -- ---- tables
@@ -52,34 +51,38 @@ tables-at files inputs shown t (suc k) (l ∷ lines) (o ∷ outputs) line output
     let there : t + 1 + k ≡ t + suc k = omega arith in
     subst (λ (n : ℕ). files output.file ≡ Some (table_of inputs shown n (names_of line))) there (tables-at files inputs shown (t + 1) k lines outputs line output held.1 at out)
 
-pub tables-show : (files : Files) (inputs : Inputs) (shown : Name → Option ℤ) → AreHeld files (tables_from inputs shown 0 inputs.described.job.tables inputs.described.job.outputs) → TablesShow inputs shown files
-tables-show files inputs shown held t line output at out =
-    let here : 0 + t ≡ t = omega arith in
-    subst (λ (n : ℕ). files output.file ≡ Some (table_of inputs shown n (names_of line))) here (tables-at files inputs shown 0 t inputs.described.job.tables inputs.described.job.outputs line output held at out)
+-- each table has an output, and stands under its name
+pub tables-show : (files : Files) (inputs : Inputs) (shown : Name → Option ℤ) → length inputs.described.job.outputs ≡ length inputs.described.job.tables
+    → AreHeld files (tables_from inputs shown 0 inputs.described.job.tables inputs.described.job.outputs) → TablesShow inputs shown files
+tables-show files inputs shown each held t line at =
+    let found = entry-in inputs.described.job.outputs t (omega (arith, each, slice_get_within inputs.described.job.tables t line at)) in
+    let output : OutputLine = found.0 in
+    let here : 0 + t ≡ t = omega arith in (
+      output,
+      found.1,
+      subst (λ (n : ℕ). files output.file ≡ Some (table_of inputs shown n (names_of line))) here (tables-at files inputs shown 0 t inputs.described.job.tables inputs.described.job.outputs line output held at found.1),
+    )
 
 -- ---- hidden sets
 
 same-kind : (one : SettledCell) (cell : Cell) → view_of_cell cell ≡ one → cell.kind ≡ one.kind
 same-kind one cell is = ap (λ (c : SettledCell). c.kind) is
 
-pub as-many-settled : (settled : SettledInputs) (system : System) (cells : List Cell) → IsOf settled system cells → length settled.cells ≡ length cells
-as-many-settled settled system cells is = ap (λ (all : List SettledCell). length all) (sym is.cells_are) ∙ length-map cells view_of_cell
-
-pub may-hide : (settled : SettledInputs) (system : System) (cells : List Cell) (flags : List Bool) → IsOf settled system cells → length flags ≡ length cells → IsPermitted cells flags → MayBeHidden settled flags
-may-hide settled system cells flags is each permitted = record {
-  each = each ∙ sym (as-many-settled settled system cells is);
-  sensitive = λ number one sensitive. (
+pub permitted-set : (settled : SettledInputs) (system : System) (cells : List Cell) (flags : List Bool) → IsOf settled system cells → length flags ≡ length cells → IsPermitted cells flags → IsPermittedSet settled flags
+permitted-set settled system cells flags is each permitted = record {
+  one_each = each ∙ sym (as-many-settled settled cells is.cells_are);
+  sensitive_hidden = λ number one sensitive. (
       let its = cell-at settled system cells number one is sensitive.found in
       permitted.primary_hidden number its.cell its.found (same-kind one its.cell its.view ∙ sensitive.kind));
-  always_shown = λ number one at fixed. (
+  fixed_shown = λ number one at fixed. (
       let its = cell-at settled system cells number one is at in
       permitted.fixed_shown number its.cell its.found (same-kind one its.cell its.view ∙ fixed));
 }
 
-pub permitted-so : (settled : SettledInputs) (system : System) (cells : List Cell) (flags : List Bool) → IsOf settled system cells → MayBeHidden settled flags → IsPermitted cells flags
-permitted-so settled system cells flags is may = record {
-  primary_hidden = λ number cell at primary. may.sensitive number (view_of_cell cell) (record { found = settled-at settled system cells number cell is at; kind = primary });
-  fixed_shown = λ number cell at fixed. may.always_shown number (view_of_cell cell) (settled-at settled system cells number cell is at) fixed;
+pub permitted-so : (settled : SettledInputs) (system : System) (cells : List Cell) (flags : List Bool) → IsOf settled system cells → IsPermittedSet settled flags → IsPermitted cells flags
+permitted-so settled system cells flags is set = record {
+  primary_hidden = λ number cell at primary. set.sensitive_hidden number (view_of_cell cell) (record { found = settled-at settled system cells number cell is at; kind = primary });
+  fixed_shown = λ number cell at fixed. set.fixed_shown number (view_of_cell cell) (settled-at settled system cells number cell is at) fixed;
 }
 
 -- a set that protects every primary cell keeps each sensitive cell open
@@ -141,11 +144,11 @@ hidden-inside (flag ∷ flags) zero is = omega arith
 hidden-inside (flag ∷ flags) (suc number) is = let more = hidden-inside flags number is in omega (arith, more)
 
 -- without any one hidden cell that isn't sensitive, some sensitive cell doesn't stay open
-pub each-needed : (settled : SettledInputs) (system : System) (cells : List Cell) (flags larger : List Bool) (needs : List Refuted) (number : ℕ) → IsOf settled system cells → length cells ≡ system.cells → length flags ≡ length cells
-    → AreNeeds (protected_case system cells) flags larger needs → IsHiddenForOthers settled flags number → ¬ ProtectsEachCell settled (without flags number)
-each-needed settled system cells flags larger needs number is one_each each are hidden =
+pub each-needed : (settled : SettledInputs) (system : System) (cells : List Cell) (flags larger : List Bool) (needs : List Refuted) → IsOf settled system cells → length flags ≡ length cells
+    → AreNeeds (protected_case system cells) flags larger needs → NeedsEachCell settled flags
+each-needed settled system cells flags larger needs is each are number hidden =
     let inside : number < length cells = let k = hidden-inside flags number hidden.hidden_is in omega (arith, each, k) in
-    let found = cell-in cells number inside in
+    let found = entry-in cells number inside in
     let other : is_primary found.0.kind ≡ false = by_test (is_primary found.0.kind) (is_primary found.0.kind ≡ false)
     (λ yes. absurd (hidden.insensitive (view_of_cell found.0) (record { found = settled-at settled system cells number found.0 is found.1; kind = primary-kind found.0.kind yes })))
     (λ no. no) in
@@ -153,12 +156,7 @@ each-needed settled system cells flags larger needs number is one_each each are 
     let listed = among-others flags 0 cells number found.0 found.1 (ap (is_hidden flags) (sym zero_more) ∙ hidden.hidden_is) other in
     let its = viewed-at (λ (need : Refuted). need.subject) needs listed.0 number (ap (λ (all : List ℕ). slice_get all listed.0) are.each_needed ∙ listed.1 ∙ ap Some (sym zero_more)) in
     let need : IsNeed (protected_case system cells) flags larger its.0 = All-found (IsNeed (protected_case system cells) flags larger) needs listed.0 its.0 are.are_needs its.1 in
-    let asked : its.0.cell < system.cells = omega (arith, one_each, slice_get_within cells its.0.cell need.cell_primary.cell need.cell_primary.found) in
+    let asked : its.0.cell < system.cells = omega (arith, is.one_each, slice_get_within cells its.0.cell need.cell_primary.cell need.cell_primary.found) in
     subst (λ (n : ℕ). ¬ ProtectsEachCell settled (without flags n)) {x = its.0.subject} its.2
     (not-each settled system cells (without flags its.0.subject) its.0.cell need.cell_primary.cell its.0.side is need.cell_primary.found need.cell_primary.is_kind
-    (no_world system cells (without flags its.0.subject) its.0.cell its.0.side its.0.multipliers one_each asked need.refutes))
-  where
-    cell-in : (all : List Cell) (k : ℕ) → k < length all → (cell : Cell) × (slice_get all k ≡ Some cell)
-    cell-in [] k within = absurd (omega (arith, within))
-    cell-in (one ∷ all) zero within = (one, refl)
-    cell-in (one ∷ all) (suc k) within = cell-in all k (omega (arith, within))
+    (no_world system cells (without flags its.0.subject) its.0.cell its.0.side its.0.multipliers is.one_each asked need.refutes))
