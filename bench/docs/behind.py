@@ -1,11 +1,13 @@
 #!/usr/bin/env python3
 """Counts what stands behind each clause of `run`: the definitions that its text comes to when every name is looked up.
 
-usage: bench/docs/behind.py [--names CLAUSE]
+usage: bench/docs/behind.py [--names CLAUSE-OR-PART | --write]
 
 For each `ensures` of `run` (crates/job_run/src/running.rt) a row: how many definitions of this repository stand behind it, in how many
-lines (without blank lines and comments), files and crates. Definitions are those of crates/*/specs; what the code declares (structs and
-enums) and the words of the kit's library aren't counted. With --names the definitions behind one clause are listed instead, by file.
+lines (without blank lines and comments), files and crates; and first a row for each part of the promise, by the definitions with which it
+begins. Definitions are those of crates/*/specs; what the code declares (structs and enums) and the words of the kit's library aren't
+counted. With --names the definitions behind one clause, or one part, are listed instead, by file; with --write the table of docs/MODEL.md
+is replaced by the one that would be printed.
 """
 
 from __future__ import annotations
@@ -17,6 +19,15 @@ from typing import Dict, List, NamedTuple, Set, Tuple
 
 TOP = pathlib.Path(__file__).resolve().parent.parent.parent
 RUN = TOP / "crates/job_run/src/running.rt"
+PROMISE = TOP / "crates/job_run/specs/Promise.antt"
+MODEL = TOP / "docs/MODEL.md"
+# parts of the promise, each with the definitions of Promise with which it begins
+PARTS = {
+    "shown, protected": ["HidingTables"],
+    "shown, sensitive, protected": ["HidingTables", "HasCellsByRules"],
+    "these, guarded or rounded": ["HidingTables", "HasCellsByRules", "GuardsEachCell", "RoundedTables"],
+}
+HEADS = ["| Clause of `run` | Definitions | Lines | Files | Crates |", "|---|---|---|---|---|"]
 HEAD = re.compile(r"^(?:abbrev|unfoldable)?\s*(?:pub )?(?:record |data )?(?:pub )?([A-Za-z_][\w\-]*)\s*(?:[:({]|$)")
 # the definition by which the files of a job are read
 READING = "settled_of"
@@ -154,37 +165,59 @@ def row(name: str, found: Set[Definition], of: str = "") -> str:
     return f"| `{name}`{of} | {len(found):,} | {lines:,} | {len(files)} | {len({crate_of(one) for one in files})} |"
 
 
+def part(name: str, known: Dict[pathlib.Path, Module]) -> Set[Definition]:
+    """The definitions behind a part of the promise."""
+    return behind(" ".join(PARTS[name]), module_of(PROMISE, known), known)
+
+
 def table() -> List[str]:
     """The table's lines, with its head."""
     known: Dict[pathlib.Path, Module] = {}
     parts, module = clauses()
-    rows = []
+    rows = [row("promise", part(name, known), f": {name}") for name in PARTS]
     for name, text in parts:
         # how inputs are read is a page of its own
         if READING in text:
             rows.append(row(name, behind(text.replace(READING, ""), module, known), " of what was read"))
         rows.append(row(name, behind(text, module, known)))
-    return ["| Clause of `run` | Definitions | Lines | Files | Crates |", "|---|---|---|---|---|", *rows]
+    return [*HEADS, *rows]
+
+
+def lines_of(found: Set[Definition]) -> List[str]:
+    """A line for each definition: its file, its name and its number of lines."""
+    ordered = sorted(found, key=lambda one: (str(one.file), one.name))
+    return [f"{one.file.relative_to(TOP)}: {one.name} ({len(one.lines)})" for one in ordered]
 
 
 def listing(wanted: str) -> List[str]:
-    """The definitions behind one clause, by file."""
+    """The definitions behind one clause or one part of the promise, by file."""
     known: Dict[pathlib.Path, Module] = {}
+    if wanted in PARTS:
+        return lines_of(part(wanted, known))
     parts, module = clauses()
     for name, text in parts:
         if name == wanted:
-            found = sorted(behind(text, module, known), key=lambda one: (str(one.file), one.name))
-            return [f"{one.file.relative_to(TOP)}: {one.name} ({len(one.lines)})" for one in found]
-    return [f"run has no clause {wanted}"]
+            return lines_of(behind(text, module, known))
+    return [f"run has no clause {wanted}, and the promise no such part; its parts are: {'; '.join(PARTS)}"]
+
+
+def write() -> None:
+    """Puts the table into MODEL, in place of the one that stands there."""
+    text = MODEL.read_text(encoding="utf-8")
+    start = text.index("\n".join(HEADS))
+    end = text.index("\n\n", start)
+    MODEL.write_text(text[:start] + "\n".join(table()) + text[end:], encoding="utf-8")
 
 
 def main(words: List[str]) -> int:
     if len(words) == 2 and words[0] == "--names":
         print("\n".join(listing(words[1])))
+    elif words == ["--write"]:
+        write()
     elif not words:
         print("\n".join(table()))
     else:
-        print("usage: bench/docs/behind.py [--names CLAUSE]", file=sys.stderr)
+        print("usage: bench/docs/behind.py [--names CLAUSE-OR-PART | --write]", file=sys.stderr)
         return 1
     return 0
 

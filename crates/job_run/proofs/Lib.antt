@@ -17,6 +17,7 @@ pub mod ReleaseRuns
 pub mod SecondRuns
 pub mod JobsRead
 pub mod PutFiles
+mod TotalSums
 mod PromisedCells
 mod PromisedTables
 pub mod PromiseKept

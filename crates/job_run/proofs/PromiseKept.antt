@@ -85,10 +85,10 @@ use Rattle.job_run.proofs.GuardingTables.{by-alone, free-permitted}
 use Rattle.job_run.proofs.JobsRead.{described-read, inputs-read, job-read, no-fault}
 use Rattle.job_run.proofs.KnownCells.{known-same, knows-some, unknown-same}
 use Rattle.job_run.proofs.Outcomes.{ok-and}
-use Rattle.job_run.proofs.PromisedCells.{Adds, HasCell, IsOf, adds-hold, as-many-settled, cell-at, hold-adds, open-protects, settled-at, stays-open}
+use Rattle.job_run.proofs.PromisedCells.{HasCell, IsOf, add-up-hold, as-many-settled, cell-at, hold-add-up, open-protects, settled-at, stays-open}
 use Rattle.job_run.proofs.PromisedTables.{each-needed, not-each, permitted-set, permitted-so, protects-each, tables-show, viewed-at}
 use Rattle.job_run.proofs.PutFiles.{AreHeld, all-held, guarded-names, names, no-file-to-round, ok-same, plain-names, some-before}
-use Rattle.job_run.proofs.SameSystem.{as-many-cells, its-relations}
+use Rattle.job_run.proofs.SameSystem.{as-many-cells}
 use Rattle.job_run.proofs.ShownLaws.{truth-at}
 
 -- ---- what was read
@@ -116,8 +116,9 @@ settled-so rules of priors made h =
     let same : map (λ (cell : Figures × Prior). settled_cell rules cell.0 cell.1) (zip of priors) ≡ made = cc in
     sym same
 
-are-cells : (files : Files) (settled : SettledInputs) → AreRead files settled → HasCellsByRules settled
-are-cells files settled are = settled-so settled.inputs.described.job.rules (figures settled.inputs) settled.priors settled.cells
+-- what the cells are, as a list
+cells-same : (files : Files) (settled : SettledInputs) → AreRead files settled → settled.cells ≡ map (λ (cell : Figures × Prior). settled_cell settled.inputs.described.job.rules cell.0 cell.1) (zip (figures settled.inputs) settled.priors)
+cells-same files settled are = settled-so settled.inputs.described.job.rules (figures settled.inputs) settled.priors settled.cells
     (no-fault prior_fault (settle_of settled.inputs.described.job.rules (figures settled.inputs) settled.priors) settled.cells are.cells)
 
 -- ---- one settled cell for each cell
@@ -154,11 +155,31 @@ many-settled files settled are =
     let inputs : Inputs = settled.inputs in
     let many : length (figures inputs) ≡ length (cells inputs) = length-map (cells inputs) (λ (name : Name). figures_in inputs.records.trees name inputs.records.rows inputs.described.bound.scale) in
     let priors : length settled.priors ≡ length (figures inputs) = many-priors files inputs (length inputs.described.job.tables) settled.priors are.priors ∙ sym many in
-    ap (λ (all : List SettledCell). length all) (are-cells files settled are)
+    ap (λ (all : List SettledCell). length all) (cells-same files settled are)
     ∙ length-map (zip (figures inputs) settled.priors) (λ (cell : Figures × Prior). settled_cell inputs.described.job.rules cell.0 cell.1)
     ∙ sym (length-map (zip (figures inputs) settled.priors) (λ (cell : Figures × Prior). cell.0))
     ∙ ap (λ (all : List Figures). length all) (firsts-zip (figures inputs) settled.priors priors)
     ∙ many
+
+-- what stands at a place where two lists are gone through together
+both-at : {A B C D : Type 0} (f : B → C → D) (g : A → B) (xs : List A) (ys : List C) (k : ℕ) (x : A) (y : C) → slice_get xs k ≡ Some x → slice_get ys k ≡ Some y
+    → slice_get (map (λ (pair : B × C). f pair.0 pair.1) (zip (map g xs) ys)) k ≡ Some (f (g x) y)
+both-at f g [] ys k x y one other = absurd cc
+both-at f g (x ∷ xs) [] k a b one other = absurd cc
+both-at f g (x ∷ xs) (y ∷ ys) zero a b one other = let first : x ≡ a = cc in let second : y ≡ b = cc in ap Some (ap (λ v. f (g v) y) first ∙ ap (f (g a)) second)
+both-at f g (x ∷ xs) (y ∷ ys) (suc k) a b one other = both-at f g xs ys k a b one other
+
+-- the cells are by the rules, one for each
+are-cells : (files : Files) (settled : SettledInputs) → AreRead files settled → HasCellsByRules settled
+are-cells files settled are =
+    let inputs : Inputs = settled.inputs in
+    record {
+      one_each = many-settled files settled are;
+      stated_each = many-priors files inputs (length inputs.described.job.tables) settled.priors are.priors;
+      by_rules = λ number name prior at stated.
+          (ap (λ (all : List SettledCell). slice_get all number) (cells-same files settled are)
+          ∙ both-at (settled_cell inputs.described.job.rules) (λ (n : Name). figures_in inputs.records.trees n inputs.records.rows inputs.described.bound.scale) (cells inputs) settled.priors number name prior at stated);
+    }
 
 -- the cells of a protection are those of the inputs that were read
 is-of : (files : Files) (settled : SettledInputs) (outcome : _) → AreRead files settled → (its : IsProtectionFor settled outcome) → IsOf settled its.system its.job.cells
@@ -345,7 +366,7 @@ rounded-so inputs base values is = record {
   adjacent = λ number name at. (
       let inside : number < is.system.cells = omega (arith, as-many-cells inputs is.system is.system_is, slice_get_within (cells inputs) number name at) in
       subst (λ (truth : ℤ). IsAdjacent base truth (number_at values number)) (truth-at _ (cells inputs) number name at) (is.rounding.adjacent number inside));
-  add_up = subst (All (Adds (number_at values))) (its-relations inputs is.system is.system_is) (hold-adds (number_at values) is.system.relations is.rounding.hold);
+  add_up = hold-add-up inputs is.system (number_at values) is.system_is is.rounding.hold;
 }
 
 rounding-so : (inputs : Inputs) (system : System) (base : ℤ) (values : List ℤ) → IsSystemIn inputs system → AreRounded inputs base values → IsRoundingFor inputs base values
@@ -357,7 +378,7 @@ rounding-so inputs system base values is are = record {
     adjacent = λ number inside. (
         let at = read-at (cells inputs) number [] (omega (arith, inside, as-many-cells inputs system is)) in
         subst (λ (truth : ℤ). IsAdjacent base truth (number_at values number)) (sym (truth-at _ (cells inputs) number _ at)) (are.adjacent number _ at));
-    hold = adds-hold (number_at values) system.relations (subst (All (Adds (number_at values))) (sym (its-relations inputs system is)) are.add_up);
+    hold = add-up-hold inputs system (number_at values) is are.add_up;
   };
 }
 

@@ -5,7 +5,6 @@ use Rattle.std.proofs.lemmas.List.{length-map}
 use Rattle.std.proofs.lemmas.List.Elements.{All-nil, All-cons, All-head, All-tail}
 use Rattle.std.proofs.lemmas.Option.{slice_get_within}
 use Rattle.sdc_base.specs.HiddenSets.{is_hidden}
-use Rattle.sdc_base.specs.Relations.{Sum, relations_among}
 use Rattle.sdc_base.specs.Systems.{Numbers, HoldOn, form}
 use Rattle.sdc_base.specs.Totals.{sum_of}
 use Rattle.sdc_base.specs.Worlds.{IsWorld, Protects, Reaches}
@@ -16,11 +15,12 @@ use Rattle.sdc_base.specs.declared.side.Side.TheVariants.{Above, Below}
 use Rattle.sdc_base.specs.declared.system.System.{System}
 use Rattle.relations.specs.Holding.{sum_in}
 use Rattle.apriori.specs.Settling.{SettledCell, view_of_cell}
-use Rattle.job_inputs.specs.Cells.{cells as names}
 use Rattle.job_inputs.specs.SettledJobs.{SettledInputs}
-use Rattle.job_run.specs.Promise.{IsCompleteTable, IsWithinStatedBounds, ReachesLevel, StaysOpen}
+use Rattle.job_inputs.specs.declared.inputs.Inputs.{Inputs}
+use Rattle.job_run.specs.Promise.{AddUp, IsCompleteTable, IsWithinStatedBounds, ReachesLevel, StaysOpen}
 use Rattle.job_run.specs.Roundings.{IsSystemIn}
 use Rattle.job_run.proofs.SameSystem.{its-relations}
+use Rattle.job_run.proofs.TotalSums.{Adds, sums-totals, totals-sums}
 
 -- ---- cells
 
@@ -63,23 +63,29 @@ cell-at settled system cells number one is at = viewed cells number one (ap (λ 
 
 -- ---- sums
 
--- a total is the sum of its parts
-abbrev pub Adds : Numbers → Sum → Type 0
-Adds numbers sum = numbers sum.0 ≡ sum_of numbers sum.1
-
-pub hold-adds : (numbers : Numbers) (relations : List Relation) → HoldOn numbers relations → All (Adds numbers) (map sum_in relations)
+hold-adds : (numbers : Numbers) (relations : List Relation) → HoldOn numbers relations → All (Adds numbers) (map sum_in relations)
 hold-adds numbers [] hold = All-nil (Adds numbers)
 hold-adds numbers (r ∷ relations) hold =
     let here : form numbers r ≡ pos 0 = All-head (λ (one : Relation). form numbers one ≡ pos 0) r relations hold in
     let adds : Adds numbers (sum_in r) = omega (arith, ints, here) in
     All-cons (Adds numbers) (sum_in r) (map sum_in relations) adds (hold-adds numbers relations (All-tail (λ (one : Relation). form numbers one ≡ pos 0) r relations hold))
 
-pub adds-hold : (numbers : Numbers) (relations : List Relation) → All (Adds numbers) (map sum_in relations) → HoldOn numbers relations
+adds-hold : (numbers : Numbers) (relations : List Relation) → All (Adds numbers) (map sum_in relations) → HoldOn numbers relations
 adds-hold numbers [] adds = All-nil (λ (one : Relation). form numbers one ≡ pos 0)
 adds-hold numbers (r ∷ relations) adds =
     let here : Adds numbers (sum_in r) = All-head (Adds numbers) (sum_in r) (map sum_in relations) adds in
     let holds : form numbers r ≡ pos 0 = omega (arith, ints, here) in
     All-cons (λ (one : Relation). form numbers one ≡ pos 0) r relations holds (adds-hold numbers relations (All-tail (Adds numbers) (sum_in r) (map sum_in relations) adds))
+
+-- numbers on which the relations of the inputs hold add up
+pub hold-add-up : (inputs : Inputs) (system : System) (numbers : Numbers) → IsSystemIn inputs system → HoldOn numbers system.relations → AddUp inputs numbers
+hold-add-up inputs system numbers is hold =
+    sums-totals inputs.records.trees inputs.described.bound.tables numbers (subst (All (Adds numbers)) (its-relations inputs system is) (hold-adds numbers system.relations hold))
+
+-- and the other way round
+pub add-up-hold : (inputs : Inputs) (system : System) (numbers : Numbers) → IsSystemIn inputs system → AddUp inputs numbers → HoldOn numbers system.relations
+add-up-hold inputs system numbers is add =
+    adds-hold numbers system.relations (subst (All (Adds numbers)) (sym (its-relations inputs system is)) (totals-sums inputs.records.trees inputs.described.bound.tables numbers add))
 
 -- ---- complete tables
 
@@ -87,7 +93,7 @@ pub is-complete : (settled : SettledInputs) (system : System) (cells : List Cell
 is-complete settled system cells flags den moves is world = record {
   positive = world.positive;
   shown_stay = λ number one at shown. world.shown_stay number (omega (arith, slice_get_within settled.cells number one at, as-many-settled settled cells is.cells_are, is.one_each)) shown;
-  add_up = subst (All (Adds moves)) (its-relations settled.inputs system is.system_is) (hold-adds moves system.relations world.relations_hold);
+  add_up = hold-add-up settled.inputs system moves is.system_is world.relations_hold;
   within_bounds = λ number one at. (
       let its = cell-at settled system cells number one is at in
       let bounds = world.bounds_hold number its.cell its.found in
@@ -101,7 +107,7 @@ is-world settled system cells flags den moves is table = record {
   shown_stay = λ number inside shown. (
       let found = entry-in cells number (omega (arith, inside, is.one_each)) in
       table.shown_stay number (view_of_cell found.0) (settled-at settled system cells number found.0 is found.1) shown);
-  relations_hold = adds-hold moves system.relations (subst (All (Adds moves)) (sym (its-relations settled.inputs system is.system_is)) table.add_up);
+  relations_hold = add-up-hold settled.inputs system moves is.system_is table.add_up;
   bounds_hold = λ number cell at. (
       let within = table.within_bounds number (view_of_cell cell) (settled-at settled system cells number cell is at) in
       record { from_low = within.at_least; to_high = within.at_most });

@@ -2,16 +2,17 @@
 -- cells and their sums alone (handbook, secondary suppression; contributors and controlled rounding: own). How files of
 -- a job are read as settled inputs is a page of its own: `settled_of`.
 --
--- Cells have numbers, by their order in `cells inputs`. In the settled inputs each has a truth, which is its records'
--- weighted sum, the bounds that are stated of it, `low` and `high`, its protection levels above and below, `up` and
--- `down`, and a kind. A hidden set is a list with a flag for each cell.
-use Rattle.std.specs.Prelude.{◌≡◌, ℕ, ◌==◌, ◌&&◌, not, Bool, true, false, List, length, map, slice_get, slice_set, Option, None, Some, Result, IsOkAnd, ℤ, pos, neg_ℤ, ◌+ℤ◌, ◌*ℤ◌, ◌≤ℤ◌, All}
-use Rattle.std.specs.List.{range_with_len, zip}
+-- Cells have names, and numbers by their order in `cells inputs`. In the settled inputs each has a truth, which is its
+-- records' weighted sum, the bounds that are stated of it, `low` and `high`, its protection levels above and below, `up`
+-- and `down`, and a kind. A hidden set is a list with a flag for each cell.
+use Rattle.std.specs.Prelude.{◌≡◌, ◌≢◌, ℕ, ◌<◌, ◌==◌, ◌&&◌, not, Bool, true, false, List, [], length, map, slice_get, slice_set, Option, None, Some, Result, IsOkAnd, ℤ, pos, neg_ℤ, ◌+ℤ◌, ◌*ℤ◌, ◌≤ℤ◌}
+use Rattle.std.specs.List.{range_with_len}
 use Rattle.std.specs.Option.{option_map_or}
 use Rattle.sdc_base.specs.HiddenSets.{is_hidden}
 use Rattle.sdc_base.specs.Records.{Name, row_falls}
-use Rattle.sdc_base.specs.Relations.{relations_among}
+use Rattle.sdc_base.specs.Relations.{codes_below, is_spanned, parts_among}
 use Rattle.sdc_base.specs.Roundings.{IsAdjacent}
+use Rattle.sdc_base.specs.RuleLevels.{figures_in}
 use Rattle.sdc_base.specs.Sums.{freq}
 use Rattle.sdc_base.specs.Systems.{Numbers, number_at}
 use Rattle.sdc_base.specs.Totals.{sum_of}
@@ -19,10 +20,11 @@ use Rattle.sdc_base.specs.declared.cell.Kind.TheVariants.{Primary, Fixed}
 use Rattle.sdc_base.specs.declared.side.Side.{Side}
 use Rattle.sdc_base.specs.declared.side.Side.TheVariants.{Above, Below}
 use Rattle.apriori.specs.Settling.{SettledCell, settled_cell}
+use Rattle.apriori.specs.declared.prior.Prior.{Prior}
 use Rattle.job_lang.specs.declared.job.OutputLine.{OutputLine}
 use Rattle.job_lang.specs.declared.job.TableLine.{TableLine}
 use Rattle.office_io.specs.Files.{Files}
-use Rattle.job_inputs.specs.Cells.{cells, figures, truth_in}
+use Rattle.job_inputs.specs.Cells.{cells, truth_in}
 use Rattle.job_inputs.specs.SettledJobs.{SettledInputs}
 use Rattle.job_inputs.specs.Tables.{names_of}
 use Rattle.job_inputs.specs.declared.faults.Fault.{Fault}
@@ -34,11 +36,20 @@ use Rattle.job_run.specs.declared.report.Report.TheVariants as report
 
 -- ---- what is sensitive
 
--- each cell is what the rules and the a priori lines make of its records: of this kind, with these levels and bounds
-abbrev pub HasCellsByRules : SettledInputs → Type 0
-HasCellsByRules settled =
-    settled.cells ≡ map (λ cell. settled_cell settled.inputs.described.job.rules cell.0 cell.1)
-    (zip (figures settled.inputs) settled.priors)
+-- what the rules make of the cell with this name, by the records that fall in it and by what a priori lines state of it:
+-- whether it is sensitive, its levels and its bounds
+abbrev pub cell_by_rules : Inputs → Name → Prior → SettledCell
+cell_by_rules inputs name prior =
+    settled_cell inputs.described.job.rules
+    (figures_in inputs.records.trees name inputs.records.rows inputs.described.bound.scale) prior
+
+-- there is a settled cell for each cell, and it is the one that the rules make of it
+pub record HasCellsByRules (settled : SettledInputs) : Type 0 where
+  pub one_each : length settled.cells ≡ length (cells settled.inputs)
+  pub stated_each : length settled.priors ≡ length (cells settled.inputs)
+  pub by_rules : (number : ℕ) (name : Name) (prior : Prior) → slice_get (cells settled.inputs) number ≡ Some name
+      → slice_get settled.priors number ≡ Some prior
+      → slice_get settled.cells number ≡ Some (cell_by_rules settled.inputs name prior)
 
 -- the cell with this number is this one, and it is sensitive
 pub record IsSensitive (settled : SettledInputs) (number : ℕ) (cell : SettledCell) : Type 0 where
@@ -55,12 +66,16 @@ pub record IsPermittedSet (settled : SettledInputs) (hidden : List Bool) : Type 
 
 -- ---- what a reader can't rule out
 
--- numbers of the cells add up: that of each total, a cell whose code has children, is the sum of those of its parts,
--- the cells with one of the children in its place
+-- Numbers of the cells add up. Where some table has a cell and spans a variable, and there are codes right below the
+-- cell's, the cell's number is the sum of those of its parts, the cells with one of these codes in its place.
 abbrev pub AddUp : Inputs → Numbers → Type 0
 AddUp inputs numbers =
-    All (λ sum. numbers sum.0 ≡ sum_of numbers sum.1)
-    (relations_among inputs.records.trees inputs.described.bound.tables)
+    (number : ℕ) (name : Name) (variable : ℕ) → slice_get (cells inputs) number ≡ Some name
+    → variable < length inputs.records.trees
+    → is_spanned inputs.records.trees inputs.described.bound.tables name variable ≡ true
+    → codes_below inputs.records.trees name variable ≢ []
+    → numbers number
+    ≡ sum_of numbers (parts_among (cells inputs) name variable (codes_below inputs.records.trees name variable))
 
 -- A value of a cell is given by how far it moves from the truth, over a denominator: it is truth + move / den. This one
 -- is at least the bound `low` and, where `high` is stated, at most that.

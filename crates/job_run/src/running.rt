@@ -64,8 +64,8 @@ use std::alloc::Global;
 /// and one for each cell and variable; the bytes of the tables; and that of the questions, or of the search for a
 /// rounding. The commands are the manual's, the order in which the inputs are looked at is argus's own.
 pub fn run<S: Shelf, T: Tray>(alloc: Global, words: &[Text], shelf: &mut S, tray: &mut T) -> Report
-    // What `run JOB` promises of the tables that it puts, of a cell that can't be protected, and of a rounding that there
-    // isn't, by the records, the cells and their sums alone.
+    // What `run JOB` promises: what its answer says of the tables that it put, or of why there are none, by the records,
+    // the cells and their sums alone.
     ensures promise { WhereTold (commands.run_job words.now) (λ name. WhereTold (S.state shelf.old).files
         (λ fs. WhereTold (T.state tray.new).files
         (λ out. IsPromiseOf result (settled_of purpose.Release fs name) out))) }
