@@ -159,12 +159,12 @@ pub record IsHiddenForOthers (settled : SettledInputs) (hidden : List Bool) (num
   pub hidden_is : is_hidden hidden number ≡ true
   pub insensitive : (cell : SettledCell) → ¬ IsSensitive settled number cell
 
--- a hidden set protects only with each of its cells: without any one that is hidden for others it doesn't
+-- each cell that is hidden for others is needed: with that one shown, the hidden set doesn't protect
 abbrev pub NeedsEachCell : SettledInputs → List Bool → Type 0
 NeedsEachCell settled hidden =
     (number : ℕ) → IsHiddenForOthers settled hidden number → ¬ ProtectsEachCell settled (without hidden number)
 
--- a release for readers: tables that hide cells, of which those hidden for others are all needed to protect
+-- a release for readers: tables that hide cells, and each cell that is hidden for others is needed
 pub record ProtectedTables (settled : SettledInputs) (tray : Files) : Type 0 where
   pub hidden : List Bool
   pub tables : HidingTables settled hidden tray
@@ -207,7 +207,7 @@ pub record CantBeProtected (settled : SettledInputs) (number : ℕ) (side : Side
   pub sensitive : IsSensitive settled number cell
   pub none : (hidden : List Bool) → IsPermittedSet settled hidden → ¬ StaysOpen settled hidden number cell side
 
--- nor does one against the contributor of the record at this row, which knows some cell, and not this one
+-- nor does one against the contributor of the record at this row, which knows some other cell, but not this one
 pub record CantBeGuarded (settled : SettledInputs) (row number : ℕ) (side : Side) : Type 0 where
   pub cell : SettledCell
   pub sensitive : IsSensitive settled number cell
