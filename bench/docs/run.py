@@ -1,10 +1,12 @@
 #!/usr/bin/env python3
 """Checks the pages: links and anchors, names in backticks, quoted definitions, command blocks with their outputs, each
 row of the tables of PROVED (definitions, files, clauses, proofs and tests that it names, and its length), that some row names
-each clause of a public function (`clauses.py` lists which row does), that MODEL names every module of definitions, that the manual's quick reference is whole and has below the right heading the word by which a statistician looks for the
-answer to each question of `questions.txt`, and the number of words of README. Blocks that call a companion (`start`, `page`, `seal`, ..) or several jobs
-at a time are run in a copy of their example, where the built programs are at hand as out/argus and out/cells; else a line
-says how many were left out. Prints what it finds, a line for each fault, and at last `pages: N faults`."""
+each clause of a public function (`clauses.py` lists which row does), that MODEL names every module of definitions and has the
+promise and its counts as their scripts print them, that the manual's quick reference is whole and has below the right heading
+the word by which a statistician looks for the answer to each question of `questions.txt`, and the number of words of README.
+Blocks that call a companion (`start`, `page`, `seal`, ..) or several jobs at a time are run in a copy of their example, where
+the built programs are at hand as out/argus and out/cells; else a line says how many were left out. Prints what it finds, a
+line for each fault, and at last `pages: N faults`."""
 
 import functools
 import os
@@ -15,7 +17,9 @@ import sys
 import tempfile
 
 sys.dont_write_bytecode = True
+import behind
 import clauses
+import promise
 
 TOP = os.path.dirname(os.path.dirname(os.path.dirname(os.path.abspath(__file__))))
 PAGES = ["README.md", "docs/MANUAL.md", "docs/PROVED.md", "docs/MODEL.md", "docs/ARCHITECTURE.md", "docs/DECISIONS.md",
@@ -129,6 +133,16 @@ def check_definitions(page):
         for part in block.strip("\n").split("\n\n"):
             if part not in specs:
                 fault(page, "not as in the tree: " + part.split("\n")[0][:80])
+
+
+# ---- the promise, as promise.py and behind.py print it
+
+def check_printed(page):
+    text = read(page)
+    if promise.printed(read("crates/job_run/specs/Promise.antt")) not in text:
+        fault(page, "the promise isn't as it stands in the tree: bench/docs/promise.py prints it anew")
+    if "\n".join(behind.table()) not in text:
+        fault(page, "the counts aren't those of the tree: bench/docs/behind.py --write writes them anew")
 
 
 # ---- command blocks
@@ -513,6 +527,7 @@ def main():
         check_names(page, words)
         check_commands(page, answers)
     check_definitions("docs/MODEL.md")
+    check_printed("docs/MODEL.md")
     check_modules("docs/MODEL.md")
     check_proved("docs/PROVED.md")
     check_promises("docs/PROVED.md")
