@@ -8,7 +8,8 @@
 #
 # ARGUS_BUILD=1 takes no program from built/, and runs only one that was proved and built here; ARGUS_BUILD=0 never begins a build.
 # ARGUS_JOBS says how many crates are proved at one time, where it is set. ARGUS_ANY_KIT=1 takes whatever kit is there.
-# ARGUS_EXPLAIN=1 calls explain after a status of 2, 3 or 4 also where standard error is no terminal, ARGUS_EXPLAIN=0 never.
+# ARGUS_EXPLAIN=1 calls explain after a status of 2, 3 or 4 and after a release also where standard error is no terminal,
+# ARGUS_EXPLAIN=0 never.
 
 # shellcheck source=built/sources.sh
 . "$top/built/sources.sh"
@@ -261,6 +262,8 @@ cells lists the cells of a job, with true values: for the office alone. It works
                             cells turnover.job
   cells JOB --released    lists the same with what the release made of each cell, once argus check accepts it
                             cells turnover.job --released
+  cells JOB --relations   lists which cell is the sum of which, by the numbers that certificates have
+                            cells turnover.job --relations
   cells --help            prints this page
   cells --version         prints the commit, the kit, and when the program was built
 
@@ -287,7 +290,7 @@ version() {
 
 # ---- a run at a terminal
 
-# Whether explain is called where an answer has a fault: only by argus.
+# Whether explain is called after an answer: only by argus.
 explains() {
     [ "$program" = argus ] && [ -x "$top/explain" ] && [ "${ARGUS_EXPLAIN:-}" != 0 ] && command -v python3 >/dev/null
 }
@@ -334,8 +337,9 @@ tell() {
     end_tick
     if [ -n "$answer" ]; then
         cat "$answer" 2>/dev/null
-        case $status in
-        2 | 3 | 4) [ ! -s "$answer" ] || ! explains || "$top/explain" "$@" <"$answer" >&2 3<&- 9>&- ;;
+        # A release is looked at for what its office may not have meant.
+        case $status:${1:-} in
+        0:run | 2:* | 3:* | 4:*) [ ! -s "$answer" ] || ! explains || "$top/explain" "$@" <"$answer" >&2 3<&- 9>&- ;;
         esac
         rm -f "$answer"
     fi

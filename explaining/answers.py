@@ -67,7 +67,7 @@ def of_job(job: Job, asked: Asked, answer: str) -> Tuple[List[str], List[str]]:
     if answer.startswith("not guarded: "):
         return releases.not_guarded(job, answer[13:].split()), []
     if answer.startswith("released: "):
-        return doubts.explain(job, answer), []
+        return doubts.explain(job, answer, bool(asked.words)), []
     return other(job, answer), []
 
 

@@ -15,11 +15,16 @@ from explaining.trees import code_list, kind_of
 
 # A value so many times the next largest is doubted.
 FAR = 1000
+# So many bytes of microdata are looked at after each run, which takes some seconds; larger files are looked at by hand alone.
+MOST_AFTER_A_RUN = 10_000_000
 
 
-def explain(job: Job, answer: str) -> List[str]:
-    """The doubts about a release, by its line."""
+def explain(job: Job, answer: str, is_after_run: bool) -> List[str]:
+    """The doubts about a release, by its line: after a run, or by hand."""
     data = Microdata(job)
+    if is_after_run and len(data.data) > MOST_AFTER_A_RUN:
+        return ["%s has %s bytes, so nothing was looked at that may be odd. To look: explain %s '%s'" % (
+            shown_name(data.name), grouped(len(data.data)), shown_name(job.name), answer)]
     found = re.match(r"released: (\d+) records, (\d+) skipped", answer)
     if found and not int(found[1]):
         return ["%s: no record counts (%s skipped), so every figure is 0." % (shown_name(data.name), found[2])] + marked(data)

@@ -375,7 +375,7 @@ def try_help_and_version(folder: str) -> None:
         place = re.search(r"(?m)^  argus %s  +\S.*\n +argus %s .*$" % (re.escape(it), it.split()[0]), said)
         wants(place is not None, "argus --help has no line and example for %s" % it)
     status, said, told = tree.ask("--help", program="cells")
-    wants(status == 0 and "cells JOB --released" in said and told == "", "cells --help: %r" % said)
+    wants(status == 0 and "cells JOB --released" in said and "cells JOB --relations" in said and told == "", "cells --help: %r" % said)
     same(tree.ask("--version")[1].split("\n")[2], "program not built from these sources yet: the next call proves and builds it", "--version before all")
     tree.make()
     status, said, told = tree.ask("--version")
@@ -412,16 +412,20 @@ def try_explain(folder: str) -> None:
     for status in range(8):
         said = tree.ask("run", str(status), "0", "a b", ARGUS_EXPLAIN="1", ASKED=asked)
         answer = "[run][%d][0][a b]\n" % status
-        if status in (2, 3, 4):
+        if status in (0, 2, 3, 4):
             same(said, (status, answer, "what it means\nand on its standard error\n"), "status %d" % status)
             same(read(asked), "(run)(%d)(0)(a b)\n%s" % (status, answer), "what explain was asked")
             os.remove(asked)
         else:
             same(said, (status, answer, ""), "status %d" % status)
             wants(not os.path.exists(asked), "explain was called after status %d" % status)
-    same(tree.ask("run", "2", ASKED=asked), (2, "[run][2]\n", ""), "standard error is no terminal")
+    same(tree.ask("check", "0", ARGUS_EXPLAIN="1", ASKED=asked), (0, "[check][0]\n", ""), "a release that is accepted")
+    for status in (0, 2):
+        same(tree.ask("run", str(status), ASKED=asked), (status, "[run][%d]\n" % status, ""), "status %d, standard error is no terminal" % status)
     same(tree.at_terminal("run", "2", ASKED=asked), (2, "[run][2]\n", "what it means\nand on its standard error\n"), "standard error is a terminal")
-    same(tree.at_terminal("run", "2", ASKED=asked, ARGUS_EXPLAIN="0"), (2, "[run][2]\n", ""), "ARGUS_EXPLAIN=0")
+    same(tree.at_terminal("run", "0", ASKED=asked), (0, "[run][0]\n", "what it means\nand on its standard error\n"), "a release at a terminal")
+    for status in (0, 2):
+        same(tree.at_terminal("run", str(status), ASKED=asked, ARGUS_EXPLAIN="0"), (status, "[run][%d]\n" % status, ""), "status %d, ARGUS_EXPLAIN=0" % status)
     tree.ask("x", program="cells")
     same(tree.ask("x", "2", program="cells", ARGUS_EXPLAIN="1", ASKED=asked), (2, "[x][2]\n", ""), "cells has no explanation")
     for to in (">/dev/full", ">&-"):
@@ -432,6 +436,44 @@ def try_explain(folder: str) -> None:
     os.remove(os.path.join(tree.tools, "python3"))
     same(tree.ask("run", "2", ARGUS_EXPLAIN="1", ASKED=asked), (2, "[run][2]\n", ""), "no python3 here")
     same(sorted(it for it in os.listdir(folder) if it.startswith("tmp.")), [], "what is left among the temporary files")
+
+
+# A job of which nothing looks odd, and a record that does: its turnover is 2,000 times the next.
+DOUBT_JOB = """<OPENMICRODATA> "firms.asc"
+<OPENMETADATA> "firms.rda"
+<SPECIFYTABLE> "Region"|"Turnover"
+<SUPPRESS> MOD()
+<WRITETABLE> (1,"table.csv")
+<CERTIFICATE> "table.cert"
+"""
+DOUBT_METADATA = "Region 1 5\n<RECODEABLE>\nTurnover 7 5\n<NUMERIC>\n"
+DOUBT_RECORDS = ["North     7", "North     9", "South    10"]
+FAR_RECORD = "South 20000"
+
+
+def try_doubts(folder: str) -> None:
+    """Explain itself after a release: a line for each doubt, standard output and status as without it."""
+    tree = Tree(folder)
+    tree.make()
+    tree.ask("run", "0")
+    for name in ("explain", "explaining"):
+        copied(name, tree.top)
+    put(os.path.join(tree.work, "it.job"), DOUBT_JOB)
+    put(os.path.join(tree.work, "firms.rda"), DOUBT_METADATA)
+    for records, doubts in ((DOUBT_RECORDS, ""), ([*DOUBT_RECORDS, FAR_RECORD], '  firms.asc, line 4: Turnover is "20000", 2,000 times the next largest value: is it in another unit?\n'),
+                            ([], "  firms.asc: no record counts (0 skipped), so every figure is 0.\n")):
+        put(os.path.join(tree.work, "firms.asc"), "".join(it + "\n" for it in records))
+        answer = "released: %d records, 0 skipped, 0 passed over, 3 cells, 0 primary, 0 hidden\n" % len(records)
+        put(tree.at("out", "argus"), "#!/bin/sh\nprintf '%s'\n" % answer.replace("\n", "\\n"), True)
+        same(tree.ask("run", "it.job"), (0, answer, ""), "%d records, no terminal" % len(records))
+        same(tree.ask("run", "it.job", ARGUS_EXPLAIN="1"), (0, answer, doubts), "%d records, explained" % len(records))
+        same(tree.at_terminal("run", "it.job"), (0, answer, doubts), "%d records, at a terminal" % len(records))
+        same(tree.ask("check", "it.job", ARGUS_EXPLAIN="1"), (0, answer, ""), "%d records, another command" % len(records))
+    put(os.path.join(tree.work, "firms.asc"), (DOUBT_RECORDS[0] + "\n") * 900_000)
+    answer = "released: 900000 records, 0 skipped, 0 passed over, 2 cells, 0 primary, 0 hidden\n"
+    put(tree.at("out", "argus"), "#!/bin/sh\nprintf '%s'\n" % answer.replace("\n", "\\n"), True)
+    status, said, told = tree.ask("run", "it.job", ARGUS_EXPLAIN="1")
+    wants((status, said) == (0, answer) and told.count("\n") == 1 and "10,800,000 bytes, so nothing was looked at" in told and "explain it.job 'released: 900000" in told, "a large file: %r" % told)
 
 
 def try_long_run(folder: str) -> None:
