@@ -15,3 +15,5 @@ pub mod ReleasedAmounts
 pub mod ShownRows
 pub mod ReleaseReads
 pub mod Asking
+pub mod RelationVariables
+pub mod RelationLists

@@ -1,4 +1,4 @@
--- The cell with a number in a listing, and the lines of the cells up to it.
+-- The cell with a number in a listing, and the lines up to it.
 use Rattle.std.proofs.Common.{◌≡◌, ℕ, zero, suc, ◌+◌, ◌<◌, ◌≤◌, List, [], ◌∷◌, ◌++◌, length, map, flat_map, take, slice_get, Some, arith, refl, ap, ◌∙◌, append-nil}
 use Rattle.std.proofs.lemmas.List.{length-map, take_more, take_all}
 use Rattle.std.proofs.lemmas.Option.{get_or_from_slice_get, slice_get_within}
@@ -36,17 +36,17 @@ as_many first (n ∷ names) (f ∷ figures) [] same more = absurd (omega (arith,
 as_many first (n ∷ names) (f ∷ figures) (c ∷ settled) same more = ap suc (as_many (first + 1) names figures settled (omega (arith, same)) (omega (arith, more)))
 
 -- one line more
-pub lines_more : (line : ListedCell → List ℕ) (cells : List ListedCell) (i : ℕ) (one : ListedCell) → slice_get cells i ≡ Some one → flat_map line (take (i + 1) cells) ≡ flat_map line (take i cells) ++ line one
-lines_more line cells i one here =
+pub lines_more : {X : Type 0} (line : X → List ℕ) (cells : List X) (i : ℕ) (one : X) → slice_get cells i ≡ Some one → flat_map line (take (i + 1) cells) ≡ flat_map line (take i cells) ++ line one
+lines_more {X = X} line cells i one here =
     let within : i < length cells = slice_get_within cells i one here in
-    let more : take (i + 1) cells ≡ take i cells ++ one ∷ [] = take_more cells i one within ∙ ap (λ (last : ListedCell). take i cells ++ last ∷ []) (get_or_from_slice_get cells i one one here) in
-    ap (λ (front : List ListedCell). flat_map line front) more
+    let more : take (i + 1) cells ≡ take i cells ++ one ∷ [] = take_more cells i one within ∙ ap (λ (last : X). take i cells ++ last ∷ []) (get_or_from_slice_get cells i one one here) in
+    ap (λ (front : List X). flat_map line front) more
     ∙ flat_map-append line (take i cells) (one ∷ [])
     ∙ ap (λ (last : List ℕ). flat_map line (take i cells) ++ last) (append-nil (line one))
 
 -- all of them
-pub lines_all : (line : ListedCell → List ℕ) (cells : List ListedCell) (i : ℕ) → length cells ≤ i → flat_map line (take i cells) ≡ flat_map line cells
-lines_all line cells i end = ap (λ (front : List ListedCell). flat_map line front) (take_all i cells end)
+pub lines_all : {X : Type 0} (line : X → List ℕ) (cells : List X) (i : ℕ) → length cells ≤ i → flat_map line (take i cells) ≡ flat_map line cells
+lines_all {X = X} line cells i end = ap (λ (front : List X). flat_map line front) (take_all i cells end)
 
 -- the cell with a number of a listing has this name, these figures, and is settled so
 pub record IsAt (first : ℕ) (names : List Name) (facts : List Figures) (settled : List SettledCell) (i : ℕ) (cell : ListedCell) : Type 0 where

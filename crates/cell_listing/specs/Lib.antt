@@ -3,6 +3,8 @@ pub mod Reasons
 pub mod Columns
 pub mod Givens
 pub mod Listings
+pub mod ListedRelations
+pub mod RelationListings
 pub mod Calls
 pub mod Laws
 pub mod Outcomes

@@ -3,8 +3,9 @@ use Rattle.std.specs.Prelude.{◌≡◌, ℕ, List, Result, Err, IfOk, Vec}
 use Rattle.std.specs.declared.alloc.Global.{Global}
 use Rattle.sdc_base.specs.WhereTold.{WhereTold}
 use Rattle.office_io.specs.Shelves.{ShelfState}
+use Rattle.job_inputs.specs.Looks.{InputsComeTo}
 use Rattle.job_inputs.specs.ReadFiles.{limit}
-use Rattle.job_inputs.specs.Reading.{HasCause, HasComeTo, HasOnlyLooked}
+use Rattle.job_inputs.specs.Reading.{HasCause, HasComeTo, HasLookedAt, HasOnlyLooked, IsSoundByItsType}
 use Rattle.job_inputs.specs.SettledJobs.{HasOnlyLookedOn, SettledInputs, settled_of}
 use Rattle.job_inputs.specs.SoundJobs.{AreSound}
 use Rattle.job_inputs.specs.declared.purpose.Purpose.TheVariants as purpose
@@ -15,6 +16,7 @@ use Rattle.job_check.specs.declared.stop.CheckStop.{CheckStop}
 use Rattle.job_check.specs.declared.stop.CheckStop.TheVariants as check
 use Rattle.cell_listing.specs.Calls.{HasComeToInputs, IsListingAnswer}
 use Rattle.cell_listing.specs.Listings.{IsCellListing}
+use Rattle.cell_listing.specs.RelationListings.{IsRelationListing, ListsRelations}
 use Rattle.cell_listing.specs.Releases.{IsReleaseListingAnswer, IsListingOf}
 use Rattle.cell_listing.specs.declared.calls.ListStop.{ListStop}
 use Rattle.cell_listing.specs.declared.calls.ListStop.TheVariants as list
@@ -27,6 +29,14 @@ pub record IsListingRun (name : List ℕ) (answer : Result (Vec ℕ Global) List
   pub shelf : HasOnlyLooked limit old new
   pub cause : (e : InputStop) → answer ≡ Err (list.Inputs e) → HasCause {X = Unit {0}} (Err e) old new
   pub listed : IfOk answer (λ bytes. (settled : SettledInputs) × IsCellListing settled bytes.items
+      × AreSound settled.inputs)
+
+-- The same of the listing of the relations between its cells.
+pub record IsRelationsRun (name : List ℕ) (answer : Result (Vec ℕ Global) InputStop) (old new : ShelfState)
+    : Type 0 where
+  pub looked : HasLookedAt (ListsRelations name) (λ fs. InputsComeTo purpose.Release fs name) IsSoundByItsType limit
+      answer old new
+  pub listed : IfOk answer (λ bytes. (settled : SettledInputs) × IsRelationListing settled bytes.items
       × AreSound settled.inputs)
 
 -- The same of the job with its release, which is one that a check accepts: where it doesn't, the answer is that of the

@@ -2,13 +2,15 @@ ghost use Rattle.std.specs.Prelude.{◌≡◌, ◌≢◌, ◌↔◌, None, Err, 
 ghost use Rattle.sdc_base.specs.WhereTold.{WhereTold};
 ghost use Rattle.job_inputs.specs.ReadFiles.{limit, output_limit};
 ghost use Rattle.job_inputs.specs.Reading.{HasOnlyLooked};
-ghost use Rattle.cell_listing.specs.Asked.{IsCellsAnswer, IsReleasesAnswer};
+ghost use Rattle.cell_listing.specs.Asked.{IsCellsAnswer, IsRelationsAnswer, IsReleasesAnswer};
 ghost use Rattle.cell_listing.specs.Asked as spec;
 ghost use Rattle.cell_listing.specs.Calls.{job_named};
 
 use crate::calls::{ListStop, list_cells};
+use crate::relations_reading::list_relations;
 use crate::released_reading::list_released;
 use job_check::CheckStop;
+use job_inputs::InputStop;
 use office_io::Shelf;
 use sdc_base::Text;
 use std::alloc::Global;
@@ -47,8 +49,21 @@ impl From<CheckStop> for AskStop {
     }
 }
 
+impl From<InputStop> for AskStop {
+    ghost use Rattle.std.specs.Prelude.{◌≡◌};
+    ghost use Rattle.cell_listing.specs.declared.asked.AskStop.TheVariants as stop;
+    ghost use Rattle.job_check.specs.declared.stop.CheckStop.TheVariants as check;
+
+    ghost from_gives = { λ input e. e ≡ stop.Stopped (check.Inputs input) };
+
+    fn from(input: InputStop) -> Self {
+        AskStop::Stopped(CheckStop::Inputs(input))
+    }
+}
+
 /// What the words ask for, from the shelf: with the name of a job alone, the listing of [`list_cells`]; with
-/// `--released` behind the name, that of [`list_released`]. Nothing is put.
+/// `--released` behind the name, that of [`list_released`], and with `--relations` that of [`list_relations`]. Nothing
+/// is put.
 ///
 /// Other words are `Usage`, which looks at no file; else each answer is that of the call. Its cost is theirs too. The
 /// words are argus's own.
@@ -57,17 +72,49 @@ pub fn list_asked<S: Shelf>(
     words: &[Text],
     shelf: &mut S,
 ) -> Result<Vec<u8>, AskStop>
-    ensures usage { (result ≡ Err AskStop.Usage) ↔ ((job_named words.now ≡ None) × (spec.release_named words.now ≡ None)) }
+    ensures usage { (result ≡ Err AskStop.Usage) ↔ ((job_named words.now ≡ None) × (spec.release_named words.now ≡ None)
+        × (spec.relations_named words.now ≡ None)) }
     // The name of a job alone.
     ensures cells { WhereTold (job_named words.now)
         (λ name. IsCellsAnswer name result (S.state shelf.old) (S.state shelf.new)) }
     // The name of a job, and `--released`.
     ensures released { WhereTold (spec.release_named words.now)
         (λ name. IsReleasesAnswer name result (S.state shelf.old) (S.state shelf.new)) }
+    // The name of a job, and `--relations`.
+    ensures relations { WhereTold (spec.relations_named words.now)
+        (λ name. IsRelationsAnswer name result (S.state shelf.old) (S.state shelf.new)) }
     // It was only read from, and no more than was wanted.
     ensures shelf { HasOnlyLooked output_limit (S.state shelf.old) (S.state shelf.new) }
 {
-    match release_named(words) {
+    match named_with(words, b"--relations") {
+        Some(name) => asked_relations(alloc, shelf, name),
+        None => asked_of_cells(alloc, words, shelf),
+    }
+}
+
+// The listing of the relations between the cells of a job.
+fn asked_relations<S: Shelf>(alloc: Global, shelf: &mut S, name: &Text) -> Result<Vec<u8>, AskStop>
+    ensures answers { IsRelationsAnswer name.now result (S.state shelf.old) (S.state shelf.new) }
+    ensures no_usage { result ≢ Err AskStop.Usage }
+{
+    let bytes = list_relations(alloc, shelf, name)?;
+    Ok(bytes)
+}
+
+// The listing of cells that the words ask for.
+fn asked_of_cells<S: Shelf>(
+    alloc: Global,
+    words: &[Text],
+    shelf: &mut S,
+) -> Result<Vec<u8>, AskStop>
+    ensures usage { (result ≡ Err AskStop.Usage) ↔ ((job_named words.now ≡ None) × (spec.release_named words.now ≡ None)) }
+    ensures cells { WhereTold (job_named words.now)
+        (λ name. IsCellsAnswer name result (S.state shelf.old) (S.state shelf.new)) }
+    ensures released { WhereTold (spec.release_named words.now)
+        (λ name. IsReleasesAnswer name result (S.state shelf.old) (S.state shelf.new)) }
+    ensures shelf { HasOnlyLooked output_limit (S.state shelf.old) (S.state shelf.new) }
+{
+    match named_with(words, b"--released") {
         Some(name) => asked_release(alloc, shelf, name),
         None => asked_cells(alloc, words, shelf),
     }
@@ -93,14 +140,11 @@ fn asked_cells<S: Shelf>(alloc: Global, words: &[Text], shelf: &mut S) -> Result
     Ok(bytes)
 }
 
-// The name of a job, where `--released` stands behind it, and nothing else.
-fn release_named(words: &[Text]) -> Option<&Text>
-    ensures { option_map (λ name. name.now) result ≡ spec.release_named words.now }
+// The name of a job, where this word stands behind it, and nothing else.
+fn named_with<'a>(words: &'a [Text], option: &[u8]) -> Option<&'a Text>
+    ensures { option_map (λ name. name.now) result ≡ spec.named_with option.now words.now }
 {
-    if words.len() == 2
-        && !words[0].as_slice().is_empty()
-        && words[1].as_slice() == b"--released".as_slice()
-    {
+    if words.len() == 2 && !words[0].as_slice().is_empty() && words[1].as_slice() == option {
         Some(&words[0])
     } else {
         None

@@ -76,8 +76,8 @@ fn standing_names(alloc: Global) -> Result<Items<Text>, Memory>
     Ok(names)
 }
 
-// The names of the variables that span a job's tables.
-fn variable_names(alloc: Global, described: &DescribedJob) -> Result<Items<Text>, Memory>
+/// The names of the variables that span a job's tables.
+pub(crate) fn variable_names(alloc: Global, described: &DescribedJob) -> Result<Items<Text>, Memory>
     ensures { IfOk result (λ names. names ≡ spec.variable_names described.now) }
 {
     let variables = described.meta.variables.as_slice();

@@ -1,4 +1,5 @@
-//! What the office itself wants to see: a listing of the cells of a job's tables, one line for each.
+//! What the office itself wants to see: a listing of the cells of a job's tables, one line for each, and one of the
+//! relations between them.
 #![tactic(auto)]
 
 mod amounts;
@@ -8,10 +9,13 @@ mod csv_line;
 mod fields;
 mod hidden_cells;
 mod laws;
+mod listed_relations;
 mod listing;
 mod outcome;
 mod reading;
 mod reasons;
+mod relations_listing;
+mod relations_reading;
 mod released_cells;
 mod released_listing;
 mod released_reading;
@@ -23,5 +27,7 @@ pub use calls::{ListStop, list_cells};
 pub use laws::{listings_are_of_releases, prices_are_costs, reasons_are_true};
 pub use listing::listing_for;
 pub use reading::list_job;
+pub use relations_listing::relations_listing_for;
+pub use relations_reading::list_relations;
 pub use released_listing::released_listing_for;
 pub use released_reading::list_released;

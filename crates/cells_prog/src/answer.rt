@@ -14,7 +14,7 @@ use job_run::{FileRef, Report, report_text};
 use std::alloc::Global;
 use std::process::ExitCode;
 
-const USAGE: &[u8] = b"usage: cells JOB | cells JOB --released\n";
+const USAGE: &[u8] = b"usage: cells JOB | cells JOB --released | cells JOB --relations\n";
 
 /// Writes a listing to the output, or the usage line to standard output, or says on standard error why there is no
 /// listing, and gives the status with which the program ends: 0 for a listing, and else argus's status for what went

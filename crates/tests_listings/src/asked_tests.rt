@@ -1,11 +1,11 @@
 use crate::listed_tests::texts_of;
 use apriori::PriorWhy;
 use attackers::ExtraFault;
-use cell_listing::{AskStop, list_asked};
+use cell_listing::{AskStop, list_asked, list_relations, relations_listing_for};
 use cert_check::CheckFault;
 use certificate::CertWhy;
 use job_check::CheckStop;
-use job_inputs::{Fault, FileRef, InputStop};
+use job_inputs::{Fault, FileRef, InputStop, Purpose, read_settled};
 use job_lang::JobWhy;
 use microdata::RowWhy;
 use office_io::MemoryShelf;
@@ -237,10 +237,12 @@ const NAMING_ALL: &[File] = &[
     (b"p.hst", b"a;c;5\n"),
 ];
 
-// The words that ask for the cells of a job, and for those of its release.
+// The words that ask for the cells of a job, for those of its release, and for the relations between them.
 const CELLS: &[&[u8]] = &[b"r.job"];
 
 const RELEASED: &[&[u8]] = &[b"r.job", b"--released"];
+
+const RELATIONS: &[&[u8]] = &[b"r.job", b"--relations"];
 
 // A shelf with the files, and this in place of what one of them holds, where it is there.
 fn shelf_with(
@@ -306,6 +308,75 @@ fn listings_of_releases(rt: HostRuntime) -> Result<(), Fail> {
     for (files, listing) in &LISTINGS_OF_RELEASES {
         assert!(rt; lists(rt.alloc(), RELEASED, files, listing)?);
     }
+    Ok(())
+}
+
+// Codes of three levels, by a variable whose name has a comma.
+const ODD_NAME: &[File] = &[
+    (
+        b"r.job",
+        b"<OPENMICRODATA> \"m.asc\"\n<OPENMETADATA> \"m.rda\"\n<SPECIFYTABLE> \"A,1\"|\"V\"\n<SAFETYRULE> FREQ(1,30)\n<SUPPRESS> MOD()\n<WRITETABLE> (1,\"t.csv\")\n<CERTIFICATE> \"t.cert\"\n",
+    ),
+    (
+        b"m.rda",
+        b"\"A,1\" 1 3\n<RECODEABLE>\n<HIERARCHICAL>\n<HIERLEVELS> 1 1 1 0 0\nV 4 2\n<NUMERIC>\n",
+    ),
+    (b"m.asc", b"111 5\n112 5\n211 5\n"),
+];
+
+// The files of jobs, and the listings of their relations: by cell, and for one cell by variable.
+const LISTINGS_OF_RELATIONS: [(&[File], &[u8]); 4] = [
+    (
+        TWO_WAY,
+        b"relation,total,variable,parts\n0,0,A,3 6\n1,0,B,1 2\n2,1,A,4 7\n3,2,A,5 8\n4,3,B,4 5\n5,6,B,7 8\n",
+    ),
+    (
+        LINKED,
+        b"relation,total,variable,parts\n0,0,A,1 2\n1,0,B,3 4\n",
+    ),
+    (
+        STATED,
+        b"relation,total,variable,parts\n0,0,Ind,1 4\n1,1,Ind,2 3\n2,4,Ind,5\n",
+    ),
+    // 0 is the total; 1, 2, 3 and 4 are 1, 11, 111 and 112; 5, 6 and 7 are 2, 21 and 211.
+    (
+        ODD_NAME,
+        b"relation,total,variable,parts\n0,0,\"A,1\",1 5\n1,1,\"A,1\",2\n2,2,\"A,1\",3 4\n3,5,\"A,1\",6\n4,6,\"A,1\",7\n",
+    ),
+];
+
+#[test]
+fn listings_of_relations(rt: HostRuntime) -> Result<(), Fail> {
+    for (files, listing) in &LISTINGS_OF_RELATIONS {
+        assert!(rt; lists(rt.alloc(), RELATIONS, files, listing)?);
+    }
+    Ok(())
+}
+
+// The listing of the relations of the job of the files, from its name.
+fn relations_by_name(alloc: Global, files: &[File]) -> Result<Option<Vec<u8>>, Memory> {
+    let name = Text::from_slice(alloc, b"r.job")?;
+    let mut shelf = shelf_with(alloc, files, b"", None)?;
+    Ok(list_relations(alloc, &mut shelf, &name).ok())
+}
+
+// The same from the job itself, once it is read.
+fn relations_of_job(alloc: Global, files: &[File]) -> Result<Option<Vec<u8>>, Memory> {
+    let name = Text::from_slice(alloc, b"r.job")?;
+    let mut shelf = shelf_with(alloc, files, b"", None)?;
+    match read_settled(alloc, &mut shelf, &name, Purpose::Release) {
+        Ok(job) => Ok(Some(relations_listing_for(alloc, &job)?)),
+        Err(_) => Ok(None),
+    }
+}
+
+#[test]
+fn relations_of_one_job(rt: HostRuntime) -> Result<(), Fail> {
+    let wanted = b"relation,total,variable,parts\n0,0,A,1 2\n1,0,B,3 4\n".as_slice();
+    let by_name = relations_by_name(rt.alloc(), LINKED)?;
+    assert!(rt; by_name.is_some_and(|bytes| bytes.as_slice() == wanted));
+    let of_job = relations_of_job(rt.alloc(), LINKED)?;
+    assert!(rt; of_job.is_some_and(|bytes| bytes.as_slice() == wanted));
     Ok(())
 }
 
@@ -474,6 +545,17 @@ fn faults_of_inputs_of_a_release(rt: HostRuntime) -> Result<(), Fail> {
     Ok(())
 }
 
+#[test]
+fn faults_of_inputs_of_relations(rt: HostRuntime) -> Result<(), Fail> {
+    for (name, other, fault) in &FAULTS_OF_INPUTS {
+        assert_eq!(rt;
+            fault_of(rt.alloc(), RELATIONS, NAMING_ALL, name, *other)?,
+            Some(*fault)
+        );
+    }
+    Ok(())
+}
+
 // A file of a release, what it holds, where it is there, and the fault.
 const FAULTS_OF_A_RELEASE: [(&[u8], Option<&[u8]>, Fault); 4] = [
     (
@@ -512,13 +594,17 @@ const NO_JOB: AskStop = AskStop::Stopped(CheckStop::Inputs(InputStop::Refused(Fa
 ))));
 
 // Words, and what is said to them where there are no files.
-const WORDS: [(&[&[u8]], AskStop); 6] = [
+const WORDS: [(&[&[u8]], AskStop); 10] = [
     (&[], AskStop::Usage),
     (&[b"", b"--released"], AskStop::Usage),
     (&[b"r.job", b"--release"], AskStop::Usage),
     (&[b"--released", b"r.job"], AskStop::Usage),
     (&[b"r.job", b"--released", b"r.job"], AskStop::Usage),
     (&[b"--released"], NO_JOB),
+    (&[b"", b"--relations"], AskStop::Usage),
+    (&[b"--relations", b"r.job"], AskStop::Usage),
+    (&[b"r.job", b"--released", b"--relations"], AskStop::Usage),
+    (&[b"r.job", b"--relations"], NO_JOB),
 ];
 
 #[test]
