@@ -37,13 +37,13 @@ class Argus:
     def ask(self, *words: str) -> Tuple[int, str]:
         return answer_of(self.program, *words)
 
-    def listing(self, job: str) -> Tuple[Optional[str], str]:
-        """The listing of the cells, or nothing and why there is none."""
+    def listing(self, job: str, *option: str) -> Tuple[Optional[str], str]:
+        """The listing of the cells, or with `--relations` that of the relations; or nothing, and why there is none."""
         program = os.path.join(os.path.dirname(self.program), "cells")
         if not os.path.exists(program):
             return None, "there is no program cells beside argus"
         try:
-            status, said = answer_of(program, job)
+            status, said = answer_of(program, job, *option)
         except Stop as fault:
             return None, str(fault)
         return (said, "") if status == 0 else (None, said.strip() or "status %d" % status)

@@ -1,11 +1,16 @@
-"""Amounts in units, the certificate's lines, and the listing of the cells."""
+"""Amounts in units, the certificate's lines, and the listings of the cells and of the relations between them."""
 
 import csv
 import fractions
 import io
+from typing import List, Tuple
 
 from paging.files import Stop
 from paging.texts import grouped
+
+
+# A relation: the cell of a total, and the cells whose sum it is.
+Relation = Tuple[int, List[int]]
 
 
 class Amounts:
@@ -109,3 +114,19 @@ def listing_of(text, book, amounts):
     if len(facts) != len(book.names):
         raise Stop("the listing of the cells isn't that of the tables: it has %d cells" % len(facts))
     return facts
+
+
+def relations_of(text: str, book) -> List[Relation]:
+    """The relations by their numbers, from their listing. Each is looked at: its cells differ in the code of its variable alone."""
+    found: List[Relation] = []
+    try:
+        for row in csv.DictReader(io.StringIO(text, newline="")):
+            total, parts = int(row["total"]), [int(it) for it in row["parts"].split()]
+            place = book.variables.index(row["variable"])
+            others = {book.names[it][:place] + book.names[it][place + 1:] for it in [total, *parts]}
+            if row["relation"] != str(len(found)) or len(others) != 1 or total in parts:
+                raise ValueError
+            found.append((total, parts))
+    except (KeyError, IndexError, TypeError, ValueError, AttributeError) as fault:
+        raise Stop("the listing of the relations isn't that of the tables: line %d" % (len(found) + 2)) from fault
+    return found

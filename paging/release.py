@@ -1,7 +1,7 @@
 """All that a page shows of a release."""
 
 from paging.asking import Argus
-from paging.certificate import Amounts, Certificate, listing_of
+from paging.certificate import Amounts, Certificate, listing_of, relations_of
 from paging.files import Job, Metadata, Refused, Stop, content
 from paging.tables import Book, Table
 
@@ -12,12 +12,13 @@ WAYS = {"step": "hidden by a step of the plan", "repair": "hidden by a repair", 
 
 
 class Release:
-    """All that a page shows. Parts that aren't there are None: the listing, the intervals, and of a public page also the rest."""
+    """All that a page shows. Parts that aren't there are None: the listings of cells and relations, the intervals, and of a public page
+    also the rest."""
 
     def __init__(self, job_name, is_public, program, is_checked=True):
         self.is_public, self.job = is_public, Job(job_name)
         self.metadata = Metadata(self.job.file("OPENMETADATA"))
-        self.accepted = self.certificate = self.facts = self.ranges = None
+        self.accepted = self.certificate = self.facts = self.relations = self.ranges = None
         self.notes, argus = [], Argus(program)
         if is_checked:
             self.judge(argus)
@@ -49,27 +50,35 @@ class Release:
 
     def ask(self, argus):
         self.certificate = Certificate(content(self.job.file("CERTIFICATE")))
-        self.relations = self.book.relations()
         listing, why = argus.listing(self.job.name)
         if why:
             self.notes.append(self.left_out(why))
         else:
             self.facts = listing_of(listing, self.book, self.amounts)
+            self.sum_up(argus)
         if self.job.base is None and self.hidden:
             self.ranges, why = argus.intervals(self.job.name)
             if why:
                 self.notes.append("argus intervals %s: %s. Left out: what readers of the tables can tell of a hidden cell." % (self.job.name, why))
-        given = (self.certificate.counts["cells"], self.certificate.counts["relations"])
-        if given != (len(self.book.names), len(self.relations)):
+        given, own = self.certificate.counts, [("cells", self.book.names), ("relations", self.relations)]
+        if any(them is not None and given[it] != len(them) for it, them in own):
             self.notes.append("The certificate counts other cells or relations than the tables have: it belongs to another job.")
+
+    def sum_up(self, argus):
+        """The relations by the numbers that the certificate's multipliers have. A rounded release has no multipliers."""
+        sums, why = argus.listing(self.job.name, "--relations")
+        if not why:
+            self.relations = relations_of(sums, self.book)
+        elif self.job.base is None:
+            self.notes.append("Made without the listing of the relations (%s). Left out: the sums that would give a hidden cell away." % why)
 
     def left_out(self, why):
         """What the page lacks without the listing of the cells."""
         if self.job.base is not None:
             lacking = "true values and how far the shown ones lie from them, which cells are sensitive, and records"
         else:
-            lacking = ("true values of hidden cells, their records, contributions and protection levels, the rules that name them, and how narrowly "
-                       "they are protected")
+            lacking = ("true values of hidden cells, their records, contributions and protection levels, the rules that name them, the sums that would "
+                       "give them away, and how narrowly they are protected")
         return "Made without the listing of the cells (%s). Left out: what was read of each variable; %s." % (why, lacking)
 
     def came_by(self, cell):

@@ -3,14 +3,12 @@
 import csv
 import io
 import re
-from typing import Dict, List, Optional, Sequence, Tuple
+from typing import Optional, Sequence, Tuple
 
 from paging.files import Stop, content
 
 # The codes of a cell, one for each variable of the book.
 Name = Tuple[str, ...]
-# A relation: the cell of a total, and the cells whose sum it is.
-Relation = Tuple[int, List[int]]
 
 
 class Table:
@@ -39,7 +37,7 @@ class Table:
 
 
 class Book:
-    """The cells of all tables, numbered as argus numbers them, and their relations."""
+    """The cells of all tables, numbered as argus numbers them."""
 
     def __init__(self, tables, metadata):
         self.tables, self.codes, self.parents = tables, {}, {}
@@ -80,29 +78,6 @@ class Book:
     def depth(self, variable: str, code: str) -> int:
         above = self.parents[variable][code]
         return 0 if above is None else 1 + self.depth(variable, above)
-
-    def children(self) -> Dict[str, Dict[Optional[str], List[str]]]:
-        found = {it: {} for it in self.variables}
-        for variable in self.variables:
-            for code in self.codes[variable]:
-                found[variable].setdefault(self.parents[variable][code], []).append(code)
-        return found
-
-    def relations(self) -> List[Relation]:
-        """Each relation, in the order of its number: a cell and its parts. They go by cell and then by variable, in the order of the metadata.
-
-        The certificate names relations by these numbers. This is the page's own count, and the only place where it counts them: where
-        argus's program cells comes to list them, they are to be read here instead. That they are as many as the certificate says is tried
-        for each page, and that each need's sum is true in bench/page."""
-        below, found = self.children(), []
-        spans = {table.number: set(table.variables) for table in self.tables}
-        for cell, name in enumerate(self.names):
-            mine = set().union(*[spans[t] for t in self.within[cell]])
-            for k, variable in enumerate(self.variables):
-                parts = below[variable].get(name[k]) if variable in mine else None
-                if parts:
-                    found.append((cell, [self.number[name[:k] + (it,) + name[k + 1:]] for it in parts]))
-        return found
 
     def is_lowest(self, cell: int, table: Table) -> bool:
         """Whether the cell has codes of the lowest level for each of the table's variables."""

@@ -86,12 +86,14 @@ class Words:
         if need is None:
             return "The certificate doesn't say why it must stay hidden."
         _, subject, side, q, multipliers = need
+        closely = "If it were shown, %s could be worked out too closely from %s" % (self.cell(subject), side)
+        if self.release.relations is None:
+            return closely + "."
         terms, reach = self.terms(cell, subject, side, q, multipliers)
         equation = self.equation(subject, terms, cell, side == "above") if terms else "its bounds leave it no room"
         name, facts = self.cell(subject), self.release.facts
         if reach is None or not facts:
-            return "If it were shown, %s could be worked out too closely from %s. For %s." % (
-                name, "above" if side == "above" else "below", equation)
+            return "%s. For %s." % (closely, equation)
         is_up, truth = side == "above", facts[subject].value
         level = facts[subject].up if is_up else -facts[subject].down
         end = truth + reach if is_up else truth - reach

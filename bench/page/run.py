@@ -4,8 +4,8 @@
 usage: run.py [PROGRAM] [--browser] [--pictures FOLDER]
 
 The releases are the examples, a made survey, one over three variables, one of twelve digits and many columns, and one whose names are
-marks of HTML. Of each it tries what the page works out against the certificate and the listing: how many relations there are, that each
-complete table keeps all of them and reaches its level, that the sum by which a need gives a cell away is true, as it stands on the page
+marks of HTML. Of each it tries what the page shows against the certificate and the listings: that the relations are those that outside/
+counts by itself, that each complete table keeps all of them and reaches its level, that the sum by which a need gives a cell away is true, as it stands on the page
 too, and that it leaves less than the level. It reads the page as HTML: each mark is closed, nothing is loaded, every hidden cell has its
 facts. It tries public pages, pages without cells and without argus, the names that a page may not take, and damaged files.
 
@@ -29,11 +29,12 @@ from fractions import Fraction
 
 HERE = os.path.dirname(os.path.abspath(__file__))
 TOP = os.path.dirname(os.path.dirname(HERE))
-sys.path[:0] = [TOP, HERE, os.path.join(TOP, "bench", "protect")]
+sys.path[:0] = [TOP, HERE, os.path.join(TOP, "bench", "protect"), os.path.join(TOP, "outside")]
 sys.dont_write_bytecode = True
 os.environ.update(ARGUS_BUILD="0", ARGUS_EXPLAIN="0")
 
 import demo  # noqa: E402
+from judgement import read_case  # noqa: E402
 from paging import call, sheets  # noqa: E402
 from paging.files import Job, content  # noqa: E402
 from paging.release import Release  # noqa: E402
@@ -208,6 +209,8 @@ class Trial:
 
     def sums(self, release):
         certificate, relations = release.certificate, release.relations
+        own = [(total, parts) for total, _, parts in read_case(os.fsencode(release.job.name)).book.relations]
+        self.wants(relations == own, "the relations aren't those that outside/ counts")
         self.wants(certificate.counts["relations"] == len(relations), "the relations aren't as many as the certificate counts")
         self.wants(certificate.hidden == release.hidden, "the hidden cells aren't those of the certificate")
         for k, (cell, side, den, moves) in enumerate(certificate.worlds):
@@ -353,6 +356,18 @@ def programs(program):
             shutil.copytree(os.path.join(TOP, "examples", example), ".", dirs_exist_ok=True) if sys.version_info >= (3, 8) else None
             subprocess.run([program, "run", job], stdout=subprocess.DEVNULL, check=True)
             argus = program_in(away, "argus", '[ "$ARGUS_BUILD" = 0 ] || exit 99\nexec "%s" "$@"\n' % program)
+            own = os.path.join(os.path.dirname(program), "cells")
+            path = program_in(away, "cells", '[ $# = 1 ] || { echo "usage: cells JOB"; exit 1; }\nexec "%s" "$@"\n' % own)
+            status, _, fault = asked(job, "it.html", "--argus", argus)
+            said, is_rounded = content("it.html"), example == "rounded"
+            wants(status == 0 and ("Left out: the sums" in said) != is_rounded and ("usage: cells JOB" in fault) != is_rounded,
+                  "%s: cells without relations: %d %s" % (example, status, fault))
+            wants("For <span" not in said and ("true value" in said), example + ": a sum stands on the page without the relations")
+            wrong = "relation,total,variable,parts\\n0,0,Region,4 7\\n"
+            program_in(away, "cells", '[ $# = 1 ] || { printf "%s"; exit 0; }\nexec "%s" "$@"\n' % (wrong, own))
+            status, _, fault = asked(job, "no.html", "--argus", argus)
+            wants(status == 2 and "the listing of the relations isn't that of the tables: line 2" in fault, "%s: wrong relations: %d %s" % (example, status, fault))
+            os.remove(path)
             for cells, why in ((None, "there is no program cells"), ("exit 125\n", "isn\u2019t built"), ("kill -9 $$\n", "signal 9"), ("echo no; exit 2\n", "no")):
                 path = program_in(away, "cells", cells) if cells else None
                 status, _, fault = asked(job, "it.html", "--argus", argus)
