@@ -1,13 +1,13 @@
 #!/usr/bin/env python3
 """Tries `explain`: stored explanations, mistakes made by hand, jobs that can't be protected with their remedies, and damaged inputs.
 
-usage: run.py [--all] [--store] [--argus PROGRAM]
+usage: run.py [--few] [--store] [--argus PROGRAM]
 
 The explanations of examples/mistakes and examples/more_mistakes (`explained.txt`) and of the jobs here (`jobs/NN.explained`) were read line by
 line against each mistake. `mistakes.py` has further ones, with argus's answer and what the explanation must say, by hand. The cells that
 explain adds up have to be those of the examples' listings (of all examples, where the built `cells` is beside argus). Where the built argus is
 there (PROGRAM, else out/argus), it is asked too: whether it answers as stored; whether each remedy makes a job that can't be
-protected one that is released and accepted; and, over 150 inputs damaged as bench/damage does it (2,000 with --all), whether what is named is
+protected one that is released and accepted; and, over 2,000 inputs damaged as bench/damage does it (150 with --few), whether what is named is
 what was damaged: no exception, the line that argus names, bytes that are there, and another answer once the named place is mended.
 --store writes the stored explanations anew, to be read before they are kept. The status is 1 where anything differs.
 """
@@ -410,7 +410,7 @@ def main():
     listings(tally, program)
     command(tally)
     if program:
-        statuses = damages(tally, program, 2000 if "--all" in words else 150)
+        statuses = damages(tally, program, 150 if "--few" in words else 2000)
     without = "" if program else " (without argus, so no damaged inputs and no remedies)"
     damaged = ", %d damaged inputs" % sum(statuses.values()) if statuses else ""
     print("explain: %d tried%s, %d differ%s" % (tally.tried, damaged, tally.differ, without))
