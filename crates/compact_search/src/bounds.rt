@@ -16,6 +16,11 @@ impl Bounds {
             most: Some(0),
         }
     }
+
+    // Whether they leave more than one place to stand.
+    pub(crate) fn lie_apart(&self) -> bool {
+        self.most != Some(self.least)
+    }
 }
 
 // A cell's bounds; none where a number leaves 64 bits.

@@ -1,4 +1,5 @@
 // Which nonbasic variable enters the basis.
+use crate::entry::Entry;
 use crate::table::Table;
 
 // A nonbasic variable that is to rise, or else to fall.
@@ -8,16 +9,27 @@ pub(crate) struct Entering {
     pub(crate) rises: bool,
 }
 
-// The variable with the greatest number in the objective, by size, of those that may move so that the objective grows;
-// none where the table is blocked.
+// How much an entry of the objective speaks for its variable: by whether the variable's bounds lie apart, and then by the
+// size of its number.
+#[derive(Clone, Copy)]
+struct Pull {
+    has_room: bool,
+    size: u64,
+}
+
+// The variable with the strongest pull of those that may move so that the objective grows; none where the table is
+// blocked.
 pub(crate) fn best_entering(table: &Table) -> Option<Entering> {
     let mut best = None;
-    let mut greatest = 0;
+    let mut strongest = Pull {
+        has_room: false,
+        size: 0,
+    };
     for entry in &table.objective.entries {
-        let size = entry.number.unsigned_abs();
+        let pull = pull_of(table, *entry);
         let rises = entry.number > 0;
-        if size > greatest && may_enter(table, entry.variable, rises) {
-            greatest = size;
+        if is_stronger(pull, strongest) && may_enter(table, entry.variable, rises) {
+            strongest = pull;
             best = Some(Entering {
                 variable: entry.variable,
                 rises,
@@ -25,6 +37,27 @@ pub(crate) fn best_entering(table: &Table) -> Option<Entering> {
         }
     }
     best
+}
+
+// How much an entry pulls.
+fn pull_of(table: &Table, entry: Entry) -> Pull {
+    let has_room = match table.variables.get(entry.variable) {
+        Some(one) => one.bounds.lie_apart(),
+        None => false,
+    };
+    Pull {
+        has_room,
+        size: entry.number.unsigned_abs(),
+    }
+}
+
+// Whether a pull is stronger than another.
+fn is_stronger(one: Pull, other: Pull) -> bool {
+    if one.has_room == other.has_room {
+        one.size > other.size
+    } else {
+        one.has_room
+    }
 }
 
 // Whether a variable may enter by rising, or else by falling.

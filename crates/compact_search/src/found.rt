@@ -1,4 +1,5 @@
 // What a question comes to.
+use crate::lists::MoveLists;
 use sdc_base::Fraction;
 use worlds::{Multipliers, World};
 
@@ -11,6 +12,8 @@ pub struct Stop {
     pub world: World,
     /// The multipliers of the system's relations that say that no world takes it further.
     pub multipliers: Multipliers,
+    /// The lists of the cells' moves and the relations' weights that show it.
+    pub lists: MoveLists,
 }
 
 /// What a search finds, unchecked.

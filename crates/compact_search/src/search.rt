@@ -3,7 +3,9 @@ use crate::aiming::aim;
 use crate::component::{Component, component_of, place_of};
 use crate::found::{Found, Stop};
 use crate::leaving_out::drive_out;
+use crate::lists_read::lists_of;
 use crate::multipliers_read::multipliers_of;
+use crate::returning::return_to_truths;
 use crate::start::first_table;
 use crate::table::Table;
 use crate::walk::{Beyond, End, walk};
@@ -43,6 +45,14 @@ impl CompactSearch {
             out,
             table: Some(table),
         })
+    }
+
+    /// Lets all cells stand at their truths again, where the next question then begins. What it finds moves fewer cells
+    /// so than what is found from where the question before ended.
+    pub fn return_to_truths(&mut self) {
+        if let Some(table) = &mut self.table {
+            return_to_truths(table);
+        }
     }
 
     /// Leaves a cell out: it stays at its truth, as if it were shown, until it is taken back. None where it isn't of
@@ -139,6 +149,7 @@ impl CompactSearch {
             best,
             world,
             multipliers,
+            lists: lists_of(alloc, table, component)?,
         }))
     }
 }

@@ -19,8 +19,8 @@ pub(crate) fn world_of(
     let mut moves = Items::empty(alloc);
     for (variable, cell) in numbers.iter().enumerate() {
         let (num, own) = move_of(table, variable, beyond)?;
-        let by = num.checked_mul(den.checked_div(own)?)?;
-        if by != 0 {
+        if num != 0 {
+            let by = num.checked_mul(den.checked_div(own)?)?;
             moves.push(Move { cell: *cell, by }).ok()?;
         }
     }
@@ -32,10 +32,18 @@ fn common_den(table: &Table, cells: usize, beyond: Option<Beyond>) -> Option<i12
     let mut den: i128 = 1;
     for variable in 0..cells {
         let (_num, own) = move_of(table, variable, beyond)?;
-        let common = wide_divisor_of(den, own)?;
-        den = den.checked_div(common)?.checked_mul(own)?;
+        den = common_multiple(den, own)?;
     }
     Some(den)
+}
+
+// The least whole multiple of both.
+fn common_multiple(one: i128, other: i128) -> Option<i128> {
+    if other == 1 {
+        return Some(one);
+    }
+    let common = wide_divisor_of(one, other)?;
+    one.checked_div(common)?.checked_mul(other)
 }
 
 // A variable's move in lowest terms.
@@ -51,6 +59,9 @@ fn move_of(table: &Table, variable: usize, beyond: Option<Beyond>) -> Option<(i1
         None => 0,
     };
     let num = row.value.checked_add(more)?;
+    if num == 0 {
+        return Some((0, 1));
+    }
     let den = i128::from(row.den);
     let common = wide_divisor_of(num, den)?;
     Some((num.checked_div(common)?, den.checked_div(common)?))

@@ -1,1 +1,3 @@
 pub mod KeptAnswers
+pub mod TermLists
+pub mod Checks

@@ -3,10 +3,22 @@
 #![tactic(auto)]
 
 mod answering;
+mod component;
+mod exact;
 mod kept_answer;
 mod kept_search;
+mod labels;
+mod left_over;
+mod lists;
+mod pair;
+mod pair_read;
 mod products;
 mod questions;
+mod reach_check;
+mod sides;
+mod stop_check;
+mod terms;
+mod unfit;
 
 pub use answering::checked_answer;
 pub use kept_answer::KeptAnswer;

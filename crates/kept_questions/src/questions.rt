@@ -1,4 +1,4 @@
-ghost use Rattle.std.specs.Prelude.{◌≡◌, true, Some, IfSome};
+ghost use Rattle.std.specs.Prelude.{◌≡◌, true, Some};
 ghost use Rattle.sdc_base.specs.HiddenSets.{is_hidden};
 ghost use Rattle.sdc_base.specs.Signs.{HasNone};
 ghost use Rattle.worlds.specs.declared.multipliers.Multipliers.{Multipliers as AnyMultipliers};
@@ -8,37 +8,39 @@ ghost use Rattle.interval_audit.specs.declared.answer.Answer.TheVariants as answ
 ghost use Rattle.kept_questions.specs.KeptAnswers.{IsKeptStop};
 ghost use Rattle.kept_questions.specs.declared.kept_answer.KeptAnswer.TheVariants as kept_answer;
 
-use crate::answering::checked_answer;
 use crate::kept_answer::KeptAnswer;
-use crate::kept_search::KeptSearch;
+use crate::kept_search::{KeptSearch, kept_search};
+use crate::reach_check::check_reach;
+use crate::stop_check::check_stop;
 use compact_search::Found;
-use interval_audit::{Answer, Question};
-use sdc_base::{Cell, Hidden, Items, System, components, rows_of};
+use interval_audit::{Question, members_of, met_by};
+use sdc_base::{Cell, Hidden, System, components};
 use std::alloc::Global;
 use worlds::Pattern;
+
+// The most exchanges of a question.
+const MOST_STEPS: u32 = 10_000;
 
 /// Questions about the hidden cells of a system, asked of a table that is kept from one to the next.
 #[derive(Drop)]
 pub struct KeptQuestions {
-    // The number of each cell's component.
-    of: Items<Option<u32>>,
-    // The search of each component, as long as it goes on.
+    // The number of each cell's component in the hidden set for which this was made, none for a shown cell.
+    of: Vec<Option<u32>>,
+    // By the number of a component the search over it, once a question was asked about one of its cells.
     searches: Vec<Option<KeptSearch>>,
-    scratch: Vec<i128>,
 }
 
 impl KeptQuestions {
     /// Questions about the cells of a hidden set, to be asked of that set and of those within it.
     ///
-    /// Nothing is refused: where memory is wanting there are no answers later. It makes the components of the set and a
-    /// first table for each, which goes three times through the relations and their parts.
-    pub fn new(alloc: Global, system: &System, cells: &[Cell], hidden: &Hidden) -> KeptQuestions {
-        match searches_in(alloc, system, cells, hidden) {
-            Some(kept) => kept,
+    /// Nothing is refused: where memory is wanting there are no answers later. It makes the components of the set, which
+    /// goes once through the relations and their parts, and no table before a question asks for one.
+    pub fn new(alloc: Global, system: &System, _cells: &[Cell], hidden: &Hidden) -> KeptQuestions {
+        match questions_of(alloc, system, hidden) {
+            Some(questions) => questions,
             None => KeptQuestions {
-                of: Items::new(Vec::new(alloc)),
+                of: Vec::new(alloc),
                 searches: Vec::new(alloc),
-                scratch: Vec::new(alloc),
             },
         }
     }
@@ -47,14 +49,15 @@ impl KeptQuestions {
     /// check.
     ///
     /// Where a world is given the cell lies in it exactly at the target. Where multipliers are given no world takes the
-    /// cell so far, and where the system has no signs they are those that [`interval_audit::ask`] answers; so far none
-    /// are given. That nothing is given says nothing: the pattern may hide other cells than those for which this was
-    /// made, the search may have ended early, the target may be out of reach, a number may leave 128 bits or memory be
-    /// wanting. No table is of use to another system.
+    /// cell so far, and where the system has no signs they are those that [`interval_audit::ask`] answers. That nothing
+    /// is given says nothing: the pattern may hide other cells than those for which this was made, the search may have
+    /// ended early, a number may leave 128 bits or memory be wanting. No table is of use to another system.
     ///
-    /// The search goes on from where the question before ended, with the cells left out that the pattern doesn't hide;
-    /// it makes at most 10,000 steps, and is given up where it fails. The check of a world goes once through its moves
-    /// and the parts of all relations.
+    /// The first question about a component makes its table, and each later one goes on from where the one before ended;
+    /// cells that the pattern doesn't hide are left out. The check of a world goes once through its moves and the parts
+    /// of all relations. That of multipliers makes the components of the pattern twice, goes once through the lists of
+    /// the moves for each cell of the asked cell's component and once for each time that one of its relations counts
+    /// one, and then once through the parts of the relations that have a multiplier and through all cells.
     ///
     /// The question is that of the feasibility interval in Hundepool et al., Statistical Disclosure Control, chapter on
     /// magnitude tables; that an answer stops is shown by linear duality. The order of the questions' tables is own.
@@ -73,95 +76,78 @@ impl KeptQuestions {
             → IsKeptStop pattern.now.system.now pattern.now.cells.now pattern.now.hidden.now.flags question
             multipliers }
     {
-        let answer = self.find_world(alloc, pattern, question)?;
-        match answer {
-            Answer::Reaches(world) => Some(KeptAnswer::Reaches(world)),
-            Answer::Stops { .. } => None,
+        match self.find(alloc, pattern, question)? {
+            Found::Reaches(world) => {
+                if check_reach(alloc, pattern, question, &world).is_err() {
+                    return None;
+                }
+                Some(KeptAnswer::Reaches(world))
+            }
+            Found::Stops(stop) => {
+                let multipliers = check_stop(alloc, pattern, question, &stop.lists)?;
+                Some(KeptAnswer::Stops(multipliers))
+            }
         }
     }
 
-    // The answer of a question whose target a world of the search reaches.
-    fn find_world(
+    // What the search over the asked cell's component finds, unchecked.
+    fn find(&mut self, alloc: Global, pattern: &Pattern<'_>, question: Question) -> Option<Found> {
+        let number = (*self.of.get(question.cell as usize)?)?;
+        let mut kept = self.take(alloc, pattern, question.cell, number)?;
+        kept.fit(alloc, pattern.hidden.flags.as_slice())?;
+        let found = kept.search.ask(
+            alloc,
+            question.cell,
+            question.side,
+            question.target,
+            MOST_STEPS,
+        );
+        let slot = self.searches.get_mut(number as usize)?;
+        *slot = Some(kept);
+        found
+    }
+
+    // The search over the component with a number, which is that of a cell. It has to be put back.
+    fn take(
         &mut self,
         alloc: Global,
         pattern: &Pattern<'_>,
-        question: Question,
-    ) -> Option<Answer>
-        ensures { IfSome result (IsTrueAnswer pattern.now.system.now pattern.now.cells.now
-            pattern.now.hidden.now.flags question) }
-    {
-        if question.cell >= pattern.system.cells {
-            return None;
-        }
-        let found = self.find(alloc, pattern.hidden.flags.as_slice(), question)?;
-        if matches!(&found, Found::Stops(_)) {
-            return None;
-        }
-        if self.scratch.len() != pattern.system.cells as usize {
-            return None;
-        }
-        checked_answer(pattern, question, found, &mut self.scratch)
-    }
-
-    // What the search of a question's component finds, unchecked; it is given up where it fails.
-    fn find(&mut self, alloc: Global, flags: &[bool], question: Question) -> Option<Found> {
-        let number = component_at(self.of.as_slice(), question.cell)?;
+        cell: u32,
+        number: u32,
+    ) -> Option<KeptSearch> {
         let slot = self.searches.get_mut(number as usize)?;
-        let mut search = slot.take()?;
-        let found = search.find(alloc, flags, question)?;
-        *slot = Some(search);
-        Some(found)
+        if let Some(kept) = slot.take() {
+            return Some(kept);
+        }
+        search_over(alloc, pattern, &self.of, cell)
     }
 }
 
-// The searches over a hidden set, one for each component; none for want of memory, or where there isn't a flag for each
-// cell.
-fn searches_in(
-    alloc: Global,
-    system: &System,
-    cells: &[Cell],
-    hidden: &Hidden,
-) -> Option<KeptQuestions> {
+// Questions that none has been asked of yet; none where memory is wanting or there isn't a flag for each cell.
+fn questions_of(alloc: Global, system: &System, hidden: &Hidden) -> Option<KeptQuestions> {
     if hidden.flags.as_slice().len() != system.cells as usize {
         return None;
     }
-    let Ok(grouping) = components(alloc, system, hidden) else {
-        return None;
-    };
-    let Ok(rows) = rows_of(alloc, system, &grouping) else {
-        return None;
-    };
-    let searches = all_searches(alloc, system, cells, hidden, &rows)?;
-    let Ok(scratch) = Vec::from_elem(alloc, 0, system.cells as usize) else {
-        return None;
-    };
+    let grouping = components(alloc, system, hidden).ok()?;
+    let mut searches = Vec::new(alloc);
+    for _component in 0..grouping.sizes.as_slice().len() {
+        searches.push(None).ok()?;
+    }
     Some(KeptQuestions {
-        of: grouping.of,
+        of: grouping.of.into_vec(),
         searches,
-        scratch,
     })
 }
 
-// A search for each component, by the relations in which its cells stand.
-fn all_searches(
+// A search over a cell's component, by the numbers of all cells' components.
+fn search_over(
     alloc: Global,
-    system: &System,
-    cells: &[Cell],
-    hidden: &Hidden,
-    rows: &[Vec<u32>],
-) -> Option<Vec<Option<KeptSearch>>> {
-    let mut searches = Vec::new(alloc);
-    for relations in rows {
-        let search = KeptSearch::new(alloc, system, cells, hidden, relations);
-        searches.push(search).ok()?;
-    }
-    Some(searches)
-}
-
-// The number of a cell's component, none where it is shown.
-fn component_at(of: &[Option<u32>], cell: u32) -> Option<u32> {
-    match of.get(cell as usize) {
-        Some(number) => *number,
-        None => None,
-    }
+    pattern: &Pattern<'_>,
+    of: &[Option<u32>],
+    cell: u32,
+) -> Option<KeptSearch> {
+    let system = pattern.system;
+    let members = members_of(alloc, of, cell, system.cells).ok()?;
+    let met = met_by(alloc, system.relations.as_slice(), of, cell).ok()?;
+    kept_search(alloc, system, pattern.cells, members, &met)
 }
