@@ -2,7 +2,6 @@ use Rattle.std.proofs.Common.{◌≡◌, ℕ, List, Some, slice_get, slice_index
 use Rattle.std.proofs.lemmas.Option.{IfSome_then}
 use Rattle.linked_tables.specs.BookCells.{cells}
 use Rattle.relations.specs.Holding.{sum_in}
-use Rattle.cell_listing.specs.ListedRelations.{IsSumFor}
 use Rattle.cell_listing.proofs.RelationVariables.{own_variable}
 use Rattle.cell_listing.proofs.listed_relations.variable_of.Goals as goal
 
