@@ -1,11 +1,11 @@
-use interval_audit::Question;
+use interval_audit::{Answer, Question, ask};
 use kept_questions::{KeptAnswer, KeptQuestions};
 use kit_cells::{cell_of, hidden_of, system_of};
 use sdc_base::{Cell, Hidden, Kind, Side, System};
 use std::alloc::{AllocError, Global};
 use std::rt::HostRuntime;
 use std::test::Fail;
-use worlds::{Pattern, World};
+use worlds::{Multipliers, Pattern, World};
 
 // The relations of a table of three variables with two codes each: the cell of places a, b and c has the number
 // 9 a + 3 b + c, and the place 0 is the total.
@@ -67,14 +67,15 @@ fn table(alloc: Global) -> Result<Option<System>, AllocError> {
     system_of(alloc, TRUTHS.len(), TWO_BY_TWO_BY_TWO.as_slice())
 }
 
-// The kept table's world that takes the first cell within to a target, while these cells are hidden.
-fn found_of(
+// What the kept table answers to the question whether the first cell within goes to a target, while these cells are
+// hidden.
+fn answer_of(
     alloc: Global,
     kept: &mut KeptQuestions,
     table: (&System, &[Cell], &Hidden),
     side: Side,
     target: i128,
-) -> Option<World> {
+) -> Option<KeptAnswer> {
     let (system, cells, hidden) = table;
     let size = system.cells as usize;
     let flags = hidden.flags.as_slice();
@@ -94,10 +95,59 @@ fn found_of(
         side,
         target,
     };
-    match kept.ask(alloc, &pattern, question)? {
+    kept.ask(alloc, &pattern, question)
+}
+
+// The kept table's world that takes the first cell within to a target, while these cells are hidden.
+fn found_of(
+    alloc: Global,
+    kept: &mut KeptQuestions,
+    table: (&System, &[Cell], &Hidden),
+    side: Side,
+    target: i128,
+) -> Option<World> {
+    match answer_of(alloc, kept, table, side, target)? {
         KeptAnswer::Reaches(world) => Some(world),
         KeptAnswer::Stops(_) => None,
     }
+}
+
+// The multipliers with which the walk stops the same question.
+fn walked_multipliers(
+    alloc: Global,
+    table: (&System, &[Cell], &Hidden),
+    side: Side,
+    target: i128,
+) -> Option<Multipliers> {
+    let (system, cells, hidden) = table;
+    let size = system.cells as usize;
+    let flags = hidden.flags.as_slice();
+    if cells.len() != size || flags.len() != size || size <= 13 || !flags[13] {
+        return None;
+    }
+    let question = Question {
+        cell: 13,
+        side,
+        target,
+    };
+    match ask(alloc, system, cells, hidden, question, 1_000) {
+        Ok(Answer::Stops { multipliers, .. }) => Some(multipliers),
+        _ => None,
+    }
+}
+
+// Whether two lists of multipliers are the same.
+fn are_same(one: &Multipliers, other: &Multipliers) -> bool {
+    let others = other.by_relation.as_slice();
+    if one.den != other.den || one.by_relation.as_slice().len() != others.len() {
+        return false;
+    }
+    for (place, own) in one.by_relation.as_slice().iter().enumerate() {
+        if place >= others.len() || *own != others[place] {
+            return false;
+        }
+    }
+    true
 }
 
 // Whether a world has the denominator 1 and these moves of the cells within.
@@ -174,6 +224,36 @@ fn no_world_where_there_is_none(rt: HostRuntime) -> Result<(), Fail> {
     let alloc = rt.alloc();
     for (target, hidden) in &NONE_TO_FIND {
         assert!(rt; is_none_found(alloc, *target, hidden)?);
+    }
+    Ok(())
+}
+
+// Whether a table that is kept for the cells within stops the question with the walk's multipliers, while these cells are
+// hidden.
+fn stops_like_the_walk(alloc: Global, target: i128, hidden: &[u32]) -> Result<bool, Fail> {
+    let within = hidden_of(alloc, 27, CORNERS.as_slice())?;
+    let hidden = hidden_of(alloc, 27, hidden)?;
+    let cells = cells_of(alloc, 6)?;
+    let Some(system) = table(alloc)? else {
+        return Ok(false);
+    };
+    let asked = (&system, cells.as_slice(), &hidden);
+    let mut kept = KeptQuestions::new(alloc, &system, &cells, &within);
+    let answer = answer_of(alloc, &mut kept, asked, Side::Above, target);
+    let Some(KeptAnswer::Stops(own)) = answer else {
+        return Ok(false);
+    };
+    let Some(walked) = walked_multipliers(alloc, asked, Side::Above, target) else {
+        return Ok(false);
+    };
+    Ok(are_same(&own, &walked))
+}
+
+#[test]
+fn multipliers_are_those_of_the_walk(rt: HostRuntime) -> Result<(), Fail> {
+    let alloc = rt.alloc();
+    for (target, hidden) in &NONE_TO_FIND {
+        assert!(rt; stops_like_the_walk(alloc, *target, hidden)?);
     }
     Ok(())
 }
