@@ -1,10 +1,11 @@
--- The promise of a run: what its answer says of the tables that it put, or of why there are none, by the records, the
--- cells and their sums alone (handbook, secondary suppression; contributors and controlled rounding: own). How files of
--- a job are read as settled inputs is a page of its own: `settled_of`.
+-- The promise of a run: what its answer says of the tables that it put in the tray, or of why it put none, told by
+-- records, cells and sums alone (hiding follows the handbook, secondary suppression; contributors and controlled
+-- rounding are own). How files of a job are read as settled inputs is a page of its own: `settled_of`.
 --
 -- Cells have names, and numbers by their order in `cells inputs`. In the settled inputs each has a truth, which is its
--- records' weighted sum, the bounds that are stated of it, `low` and `high`, its protection levels above and below, `up`
--- and `down`, and a kind. A hidden set is a list with a flag for each cell.
+-- records' weighted sum, the bounds that are stated of it, `low` and `high`, its protection levels above and below,
+-- `up` and `down`, and a kind: `Primary` is sensitive, `Fixed` always shown. Their `priors` are what a priori lines
+-- state of each. A hidden set is a list with a flag for each cell.
 use Rattle.std.specs.Prelude.{◌≡◌, ◌≢◌, ℕ, ◌<◌, ◌==◌, ◌&&◌, not, Bool, true, false, List, [], length, map, slice_get, slice_set, Option, None, Some, Result, IsOkAnd, ℤ, pos, neg_ℤ, ◌+ℤ◌, ◌*ℤ◌, ◌≤ℤ◌}
 use Rattle.std.specs.List.{range_with_len}
 use Rattle.std.specs.Option.{option_map_or}
@@ -66,8 +67,8 @@ pub record IsPermittedSet (settled : SettledInputs) (hidden : List Bool) : Type 
 
 -- ---- what a reader can't rule out
 
--- Numbers of the cells add up. Where some table has a cell and spans a variable, and there are codes right below the
--- cell's, the cell's number is the sum of those of its parts, the cells with one of these codes in its place.
+-- Amounts of the cells add up. Where some table has a cell and spans a variable, and there are codes right below the
+-- cell's, the cell's amount is the sum of those of its parts, the cells with one of these codes in place of its own.
 abbrev pub AddUp : Inputs → Numbers → Type 0
 AddUp inputs numbers =
     (number : ℕ) (name : Name) (variable : ℕ) → slice_get (cells inputs) number ≡ Some name
@@ -83,8 +84,9 @@ pub record IsWithinStatedBounds (cell : SettledCell) (den move : ℤ) : Type 0 w
   pub at_least : (den *ℤ cell.low) ≤ℤ (den *ℤ cell.truth +ℤ move)
   pub at_most : (high : ℤ) → cell.high ≡ Some high → (den *ℤ cell.truth +ℤ move) ≤ℤ (den *ℤ high)
 
--- A complete table is a value for each cell, of all tables, that a reader can't rule out: no shown cell moves; moves add
--- up, and so the values do, since the truths do; and each value is within its cell's bounds.
+-- A complete table is a value for each cell, of all tables, that a reader who knows the bounds can't rule out: no shown
+-- cell moves; moves add up, and so the values do, since the truths do; and each value, which needn't be whole, is within
+-- its cell's bounds.
 pub record IsCompleteTable (settled : SettledInputs) (hidden : List Bool) (den : ℤ) (moves : Numbers) : Type 0 where
   pub positive : pos 1 ≤ℤ den
   pub shown_stay : (number : ℕ) (cell : SettledCell) → slice_get settled.cells number ≡ Some cell
@@ -93,7 +95,7 @@ pub record IsCompleteTable (settled : SettledInputs) (hidden : List Bool) (den :
   pub within_bounds : (number : ℕ) (cell : SettledCell) → slice_get settled.cells number ≡ Some cell
       → IsWithinStatedBounds cell den (moves number)
 
--- the value is at least the cell's level above its truth, or at least its level below it
+-- above: the value exceeds the truth by at least `up`; below: it falls short of the truth by at least `down`
 abbrev pub ReachesLevel : Side → SettledCell → ℤ → ℤ → Type 0
 ReachesLevel Above cell den move = (den *ℤ cell.up) ≤ℤ move
 ReachesLevel Below cell den move = (den *ℤ cell.down) ≤ℤ neg_ℤ move
@@ -109,7 +111,7 @@ ProtectsEachCell settled hidden =
     (number : ℕ) (cell : SettledCell) (side : Side) → IsSensitive settled number cell
     → StaysOpen settled hidden number cell side
 
--- ---- what a contributor can't rule out
+-- ---- what a contributor can't rule out: each record is one of its own, and knows whole cells alone
 
 -- the contributor of the record at this row knows the cell with this name: no other record falls in it
 abbrev pub knows : Inputs → ℕ → Name → Bool
@@ -164,14 +166,14 @@ abbrev pub NeedsEachCell : SettledInputs → List Bool → Type 0
 NeedsEachCell settled hidden =
     (number : ℕ) → IsHiddenForOthers settled hidden number → ¬ ProtectsEachCell settled (without hidden number)
 
--- a release for readers: tables that hide cells, and each cell that is hidden for others is needed
+-- a release that holds against readers: tables that hide cells, and each cell that is hidden for others is needed
 pub record ProtectedTables (settled : SettledInputs) (tray : Files) : Type 0 where
   pub hidden : List Bool
   pub tables : HidingTables settled hidden tray
   pub needed : NeedsEachCell settled hidden
 
--- A release for readers and contributors: what its tables hide also guards. It is a core, which would do for readers
--- alone, as in a release for them, and extra cells, each of which is needed to guard.
+-- A release that holds against readers and contributors: what its tables hide also guards. The hidden set is a core,
+-- which would do against readers alone, as in a release of that kind, and extra cells, each of which is needed to guard.
 pub record GuardedTables (settled : SettledInputs) (tray : Files) : Type 0 where
   pub hidden : List Bool
   pub tables : HidingTables settled hidden tray
@@ -207,7 +209,8 @@ pub record CantBeProtected (settled : SettledInputs) (number : ℕ) (side : Side
   pub sensitive : IsSensitive settled number cell
   pub none : (hidden : List Bool) → IsPermittedSet settled hidden → ¬ StaysOpen settled hidden number cell side
 
--- nor does one against the contributor of the record at this row, which knows some other cell, but not this one
+-- no permitted set keeps this sensitive cell open to this side against the contributor of the record at this row, which
+-- knows some other cell, but not this one
 pub record CantBeGuarded (settled : SettledInputs) (row number : ℕ) (side : Side) : Type 0 where
   pub cell : SettledCell
   pub sensitive : IsSensitive settled number cell
@@ -224,8 +227,8 @@ pub record CantBeRounded (settled : SettledInputs) : Type 0 where
 
 -- ---- the promise
 
--- The tables are as a job asks for them. One that names a base wants them rounded, and has no file for contributors;
--- any other wants cells hidden, and also from contributors where it names a file for these.
+-- The tables are as a job asks for them. One that names a base has them rounded; any other has cells hidden, and from
+-- contributors too where it has an output line for these.
 abbrev pub AreTablesBy : Option ℤ → Option OutputLine → SettledInputs → Files → Type 0
 AreTablesBy (Some base) contributors settled tray = RoundedTables settled base tray
 AreTablesBy None None settled tray = ProtectedTables settled tray
@@ -240,8 +243,8 @@ AreTablesOf settled tray =
 abbrev pub IsTrueOf : Result SettledInputs Fault → (SettledInputs → Type 0) → Type 0
 IsTrueOf job Says = IsOkAnd job (λ settled. HasCellsByRules settled × Says settled)
 
--- What a run's answer promises of the job, as its files were read, and of the files in the tray after the run. No other
--- answer promises anything of tables.
+-- What a run's answer promises of the job, by what reading its files came to, and of the files in the tray after the
+-- run. Nothing is promised here of a summary's numbers and of multipliers, and by other answers nothing of tables.
 abbrev pub IsPromiseOf : Report → Result SettledInputs Fault → Files → Type 0
 IsPromiseOf (report.Released summary) job tray = IsTrueOf job (λ settled. AreTablesOf settled tray)
 IsPromiseOf (report.Cannot number side multipliers) job tray =
