@@ -189,10 +189,11 @@ def outputs_of(command):
 
 
 def listing(command):
-    """The listing of a job's cells in each example, with the release where that is asked for, or what awk prints of it."""
+    """The listing of a job's cells in each example, with the release or the relations where these are asked for, or what awk prints of it."""
     asked, _, further = command.partition(" | ")
     words = asked.split()
-    name = words[1].replace(".job", ".released" if "--released" in words else ".cells")
+    option = next((it[2:] for it in words if it in ("--released", "--relations")), "cells")
+    name = words[1].replace(".job", "." + option)
     if further:
         return awk(f"cat {name} | {further}")
     return [""] if ">" in asked else bytes_of(name)
