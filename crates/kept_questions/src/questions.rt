@@ -53,10 +53,10 @@ impl KeptQuestions {
     /// is given says nothing: the pattern may hide other cells than those for which this was made, the search may have
     /// ended early, a number may leave 128 bits or memory be wanting. No table is of use to another system.
     ///
-    /// The first question about a component makes its table, and each later one goes on from where the one before ended;
-    /// cells that the pattern doesn't hide are left out. The check of a world goes once through its moves and the parts
-    /// of all relations. That of multipliers makes the components of the pattern twice, goes once through the lists of
-    /// the moves for each cell of the asked cell's component and once for each time that one of its relations counts
+    /// The first question about a component makes its table, and each later one goes on with its equations, from the
+    /// truths; cells that the pattern doesn't hide are left out. The check of a world goes once through its moves and the
+    /// parts of all relations. That of multipliers makes the components of the pattern twice, goes once through the lists
+    /// of the moves for each cell of the asked cell's component and once for each time that one of its relations counts
     /// one, and then once through the parts of the relations that have a multiplier and through all cells.
     ///
     /// The question is that of the feasibility interval in Hundepool et al., Statistical Disclosure Control, chapter on
