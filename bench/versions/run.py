@@ -9,7 +9,8 @@ The parts, each with its own made files:
               `check` with each. This script writes the first version from the second, since the program doesn't.
   six         a table by six variables of two codes each, 729 cells
   cells       a table of 60,000 cells with few primary ones
-  size        5,000 codes of one record each, all primary: more hidden cells hang together than a question is asked of
+  size        5,000 codes of one list, of one record each, all primary: more hidden cells hang together than a question is asked of. It runs
+              here alone; the gate runs 4,001 such codes, and 5,000 codes of four levels
   flat, levels, three
               tables of growing size, by two flat variables, by two with two levels each, and by three flat ones: how many hidden cells hang together in
               the greatest one that is decided, in SECONDS (of the environment, 600 where nothing is said) of the clock
