@@ -3,12 +3,13 @@
 
 usage: run.py PROGRAM [COUNT] [SEED]
 
-It takes five examples with all their files, releases them once, and then damages one file at a time, of every kind: job, metadata, hierarchy, code
-list, microdata, a priori file, certificate and table. A damage flips a bit, raises a byte, cuts the file, doubles a part of it, drops a
-part, moves a line or puts another file in its place. The words are `run`, `check`, `intervals` or `migrate`, as the kind of the file asks. Each call has to end
-within ten seconds with a status of argus and a line that the manual has; where nothing may be put, no file may differ afterwards. It prints
-how many calls ended with each status, and each call that broke this; its status is then 1. COUNT is 10,000 and SEED 1 where they
-aren't given. It stands outside `rt ci`.
+It takes seven examples with all files that their jobs and metadata name, releases them once, and then damages one file at a time, of every
+kind: job, metadata, hierarchy, code list, microdata, a priori file, certificate, file of `<CONTRIBUTORS>` and table. A damage flips a bit,
+raises a byte, cuts the file, doubles a part of it, drops a part, moves a line or puts another file in its place. The words are `run`,
+`check`, `intervals`, `audit` or `migrate`, as the kind of the file and the job ask. Each call has to end within ten seconds with a status of
+argus and a line that the manual has for this call, with a kind of fault that the manual names; afterwards no file may differ but those that it
+may put. It prints how many calls ended with each status and with each answer, and each call that broke this; its status is then 1. COUNT
+is 10,000 and SEED 1 where they aren't given. It stands outside `rt ci`.
 """
 
 import collections
@@ -21,18 +22,59 @@ import sys
 import tempfile
 
 HERE = os.path.dirname(os.path.abspath(__file__))
-EXAMPLES = os.path.join(HERE, "..", "..", "examples")
-JOBS = (("protected", "turnover.job"), ("linked", "firms.job"), ("manual", "survey.job"), ("stated", "stated.job"), ("rounded", "turnover.job"))
-PUT = (".cert", ".csv")
+TOP = os.path.dirname(os.path.dirname(HERE))
+EXAMPLES = os.path.join(TOP, "examples")
+# An example, its job, and the words that ask for a file about its tables: one that hides isn't audited.
+JOBS = (
+    ("protected", "turnover.job", ("intervals",)),
+    ("linked", "firms.job", ("intervals",)),
+    ("manual", "survey.job", ("intervals",)),
+    ("stated", "stated.job", ("intervals",)),
+    ("rounded", "turnover.job", ("audit", "intervals")),
+    ("audited", "known.job", ("audit",)),
+    ("insider", "rest.job", ("intervals",)),
+)
+PUT = (".cert", ".csv", ".extra")
 
+SIDE = "(above|below)"
+FILE = r"(job|metadata|codelist \d+|hierarchy \d+|microdata|apriori table \d+|certificate|contributors|table \d+|out)"
+REFUSED = rf"refused: ({FILE}( line \d+)?|record \d+): (?P<kind>[A-Z][A-Za-z]+)( [A-Z]+)?"
+WORLD = r"(Den|Order \d+|Shown \d+|Bound \d+|Relation \d+)"
+MULTIPLIERS = r"(Den|Order \d+|Wide \d+|Unbounded \d+|NotBelow)"
+NOT_ACCEPTED = (
+    rf"not accepted: (Counts|Method|(PrimaryShown|FixedHidden|Step|RepairCell|Outside|WorldCell|NeedCell|Rounded|Relation) \d+|Release \d+ \d+|"
+    rf"(Repair|Need) \d+ {MULTIPLIERS}|World \d+ {WORLD}|NotReached \d+ {SIDE})"
+)
+NOT_GUARDED = rf"not guarded: ((Cell|NeedCell|GuardCell) \d+|Need \d+ {MULTIPLIERS}|Guard \d+ {WORLD}|Open \d+ \d+ {SIDE})"
+CANNOT = rf"cannot protect cell \d+ {SIDE}( from row \d+)?\nmultipliers \d+( \d+:-?\d+)*|no rounding"
+QUESTION = rf"undecided: (work, cell \d+ {SIDE}, \d+ steps|wide, cell \d+ {SIDE}|size, cell \d+ {SIDE}, \d+ hidden)"
+READ = f"read fault: {FILE}"
+OUT = "write fault: out"
+# What each call may answer by the manual, by its status. There is ample memory here.
 LINES = {
-    0: r"released: \d+ records, \d+ skipped, \d+ passed over, \d+ cells, \d+ primary, \d+ hidden|accepted|intervals: \d+ cells|migrated",
-    2: r"refused: .+",
-    3: r"cannot protect cell \d+ (above|below)\nmultipliers \d+( \d+:-?\d+)*|no rounding|not accepted: .+",
-    4: r"undecided: (work, cell \d+ (above|below), \d+ steps|wide, cell \d+ (above|below)|size, cell \d+ (above|below), \d+ hidden|nodes, \d+)",
-    5: r"read fault: .+",
-    6: r"write fault: .+",
+    "run": {
+        0: r"released: \d+ records, \d+ skipped, \d+ passed over, \d+ cells, \d+ primary, \d+ hidden",
+        2: REFUSED,
+        3: CANNOT,
+        4: rf"{QUESTION}|undecided: nodes, \d+",
+        5: READ,
+        6: f"write fault: {FILE}",
+    },
+    "check": {0: "accepted", 2: REFUSED, 3: f"{NOT_ACCEPTED}|{NOT_GUARDED}", 5: READ},
+    "intervals": {0: r"intervals: \d+ cells", 2: REFUSED, 3: r"not accepted: (Release \d+ \d+|FixedHidden \d+)", 4: QUESTION, 5: READ, 6: OUT},
+    "audit": {
+        0: r"audited: \d+ primary, \d+ exposed",
+        2: REFUSED,
+        3: r"not accepted: (Release \d+ \d+|Rounded \d+|Relation \d+)",
+        4: QUESTION,
+        5: READ,
+        6: OUT,
+    },
+    "migrate": {0: "migrated", 2: REFUSED, 5: READ, 6: OUT},
 }
+with open(os.path.join(TOP, "docs", "MANUAL.md"), encoding="utf-8") as manual:
+    # The kinds of faults: each stands in the manual by itself, or with what it is about.
+    KINDS = set(re.findall(r"`([A-Z][A-Za-z]+)[ `]", manual.read()))
 
 
 def damaged(draw, whole, other):
@@ -65,40 +107,53 @@ def contents(folder):
     return held
 
 
-def words_for(draw, name, job):
+def named_files(held, job):
+    """The files of an example that its job or its metadata names, and the job itself."""
+    text = b"".join(data for name, data in held.items() if name == job or name.endswith(".rda"))
+    return {name: data for name, data in held.items() if name == job or b'"%s"' % name.encode() in text}
+
+
+def words_for(draw, name, job, looks):
+    look = [draw.choice(looks), job, "looked.out"]
     if name.endswith(".cert"):
-        return draw.choice((["check", job], ["intervals", job, "ranges.out"], ["migrate", name, "again.cert"]))
+        return draw.choice((["check", job], look, ["migrate", name, "again.out"]))
     if name.endswith(PUT):
-        return draw.choice((["check", job], ["intervals", job, "ranges.out"]))
-    return draw.choice((["run", job], ["check", job], ["intervals", job, "ranges.out"]))
+        return draw.choice((["check", job], look))
+    return draw.choice((["run", job], ["check", job], look))
 
 
-def is_right(done, before, after):
+def is_right(words, done, before, after):
     said = done.stdout.decode("ascii", "replace")
-    line = LINES.get(done.returncode)
-    if line is None or not re.fullmatch("(?:%s)\n" % line, said):
+    line = LINES[words[0]].get(done.returncode)
+    found = line and re.fullmatch("(?:%s)\n" % line, said)
+    if not found or found.groupdict().get("kind") not in {None, *KINDS}:
         return False
-    may_put = said.startswith(("released", "intervals", "migrated", "write fault"))
-    return may_put or before == after
+    put = {name for name in before.keys() | after.keys() if before.get(name) != after.get(name)}
+    if not said.startswith(("released", "intervals", "audited", "migrated", "write fault")):
+        return not put
+    # No input differs: `run` puts new files and the outputs of an earlier run, the others put the file that they name.
+    return all(name not in before or name.endswith(PUT) for name in put) if words[0] == "run" else put <= {words[2]}
+
+
+def numbers(counted):
+    return ", ".join(f"{count:,} {what}" for what, count in sorted(counted.items()))
 
 
 def main():
     program = os.path.abspath(sys.argv[1])
     count = int(sys.argv[2]) if len(sys.argv) > 2 else 10000
     draw = random.Random(int(sys.argv[3]) if len(sys.argv) > 3 else 1)
-    statuses, broken = collections.Counter(), 0
+    statuses, answers, broken = collections.Counter(), collections.Counter(), 0
     with tempfile.TemporaryDirectory() as room:
         whole = {}
-        for example, job in JOBS:
+        for example, job, _ in JOBS:
             folder = os.path.join(room, example)
             shutil.copytree(os.path.join(EXAMPLES, example), folder)
-            subprocess.run([program, "run", job], cwd=folder, capture_output=True, check=False)
-            whole[example] = {
-                name: data for name, data in contents(folder).items() if not name.endswith((".txt", ".expected", ".md", ".gitignore"))
-            }
+            subprocess.run([program, "run", job], cwd=folder, capture_output=True, check=True)
+            whole[example] = named_files(contents(folder), job)
             shutil.rmtree(folder)
         for number in range(count):
-            example, job = draw.choice(JOBS)
+            example, job, looks = draw.choice(JOBS)
             files = dict(whole[example])
             name, other = draw.choice(sorted(files)), draw.choice(sorted(files))
             files[name] = damaged(draw, files[name], files[other])
@@ -107,19 +162,23 @@ def main():
             for file, data in files.items():
                 with open(os.path.join(folder, file), "wb") as out:
                     out.write(data)
-            words = words_for(draw, name, job)
+            words = words_for(draw, name, job, looks)
             try:
                 done = subprocess.run([program] + words, cwd=folder, capture_output=True, check=False, timeout=10)
             except subprocess.TimeoutExpired:
                 broken += 1
                 print("no end:", example, name, words)
                 continue
-            statuses[done.returncode] += 1
-            if not is_right(done, files, contents(folder)):
+            statuses[f"with status {done.returncode}"] += 1
+            # The answer without its numbers, and of a refused file that of contributors by itself.
+            said = re.match(r"(refused: contributors|[a-z ]*[a-z])?", done.stdout.decode("ascii", "replace"))[0]
+            answers[f"{words[0]} {said}"] += 1
+            if not is_right(words, done, files, contents(folder)):
                 broken += 1
                 print("wrong:", number, example, name, words, done.returncode, done.stdout[:200])
             shutil.rmtree(folder)
-    print("%d damaged inputs: %s; %d wrong" % (count, ", ".join("%d with status %d" % (statuses[s], s) for s in sorted(statuses)), broken))
+    print(numbers(answers))
+    print("%d damaged inputs: %s; %d wrong" % (count, numbers(statuses), broken))
     return 1 if broken else 0
 
 
