@@ -1,15 +1,19 @@
 #!/usr/bin/env python3
 """Lets each call for memory of argus fail in turn, by a small library in front of the C library's.
 
-usage: run.py [PROGRAM]
+usage: run.py [PROGRAM [JOB..]]
 
-For each of the jobs below `run`, `check` of what it put, and `intervals`, where the job hides cells, must answer `memory` with status 7
-and leave a whole front part of their files, or answer and leave what they do with ample memory; where there is no memory for the report's
-line, nothing is printed. No other file changes. It needs `python3` and `cc`; the program is that of `../../argus`, which builds it, where none
-is named. The status is 1 where a call does anything else.
+For each of the jobs below, or those whose titles are named, `run`, `check` of what it put, `intervals`, or `audit` where the job rounds, and
+`migrate` of its certificate must answer `memory` with status 7 and leave a whole front part of their files, or answer and leave what they do
+with ample memory; where there is no memory for the report's line, nothing is printed. No other file changes. With ample memory each answer
+and each file has to be the one that is expected: the answers stand below, and the files are those of the examples (NAME.expected). It needs
+`python3` and `cc`; the program is that of `../../argus`, which builds it, where none is named. The status is 1 where a call does anything
+else. AT_ONCE in the environment is how many calls run side by side, one where nothing is said.
 """
 
+import concurrent.futures
 import os
+import shutil
 import subprocess
 import sys
 import tempfile
@@ -17,7 +21,8 @@ import tempfile
 HERE = os.path.dirname(os.path.abspath(__file__))
 TOP = os.path.dirname(os.path.dirname(HERE))
 PROGRAM = os.path.abspath(sys.argv[1]) if len(sys.argv) > 1 else os.path.join(TOP, "out", "argus")
-OUT = "ranges.csv"
+AT_ONCE = int(os.environ.get("AT_ONCE", "1"))
+RANGES, AUDIT, AGAIN = "ranges.csv", "audit.csv", "again.cert"
 
 
 def held(folder):
@@ -34,6 +39,7 @@ def example(name, job="", old="", new=""):
     files = held(os.path.join(TOP, "examples", name))
     if job:
         files[job] = files[job].replace(old.encode(), new.encode())
+        files = {it: text for it, text in files.items() if not it.endswith(".expected")}
     return files
 
 
@@ -58,21 +64,57 @@ FOUR = {
     "m.rda": b"A 1 1\n<RECODEABLE>\nB 2 1\n<RECODEABLE>\nV 3 2\n<NUMERIC>\n",
     "m.asc": b"11 3\n12 4\n21 6\n22 2\n",
 }
-# A name, the files, the job among them, what it puts in this order, and whether it hides and doesn't round. With the rule of `linked` made
-# stricter, cells of both tables over its hierarchy are hidden.
+
+
+def released(numbers):
+    """The answer of `run` with these numbers: of records, skipped ones, lines passed over, cells, primary and hidden ones."""
+    return "released: %d records, %d skipped, %d passed over, %d cells, %d primary, %d hidden" % numbers
+
+
+def hiding(job, puts, numbers):
+    """The calls for a job that hides: their words, the files that they put in this order, and the answer."""
+    return (
+        (("run", job), puts, released(numbers)),
+        (("check", job), (), "accepted"),
+        (("intervals", job, RANGES), (RANGES,), "intervals: %d cells" % numbers[-1]),
+        (("migrate", puts[0], AGAIN), (AGAIN,), "migrated"),
+    )
+
+
+def rounding(job, puts, numbers, exposed, audit=AUDIT):
+    """The calls for a job that rounds, of whose primary cells so many are exposed."""
+    return (
+        (("run", job), puts, released(numbers)),
+        (("check", job), (), "accepted"),
+        (("audit", job, audit), (audit,), "audited: %d primary, %d exposed" % (numbers[-2], exposed)),
+        (("migrate", puts[0], AGAIN), (AGAIN,), "migrated"),
+    )
+
+
+# A release with a certificate of the first version, which is brought into the second, and from the second into the second.
+MIGRATING = (
+    (("check", "branches.job"), (), "accepted"),
+    (("migrate", "branches.cert", AGAIN), (AGAIN,), "migrated"),
+    (("check", "again.job"), (), "accepted"),
+    (("migrate", AGAIN, "twice.cert"), ("twice.cert",), "migrated"),
+)
+# A title, the files, and the calls. The second job of `insider` hides two extra cells, the first one. With the rule of `linked` made stricter,
+# cells of both tables over its hierarchy are hidden.
 JOBS = (
-    ("first", example("first"), "r1.job", ("t.cert", "t.csv"), True),
-    ("stated", example("stated"), "stated.job", ("t.cert", "t.csv"), True),
-    ("protected", example("protected"), "turnover.job", ("turnover.cert", "turnover.csv"), True),
-    ("rounded", example("rounded"), "turnover.job", ("turnover.cert", "turnover.csv"), False),
-    ("by industry", BY_INDUSTRY, "r.job", ("t.cert", "t.csv"), True),
-    ("four cells", FOUR, "r.job", ("t.cert", "t.csv"), False),
+    ("first", example("first"), hiding("r1.job", ("t.cert", "t.csv"), (7, 0, 0, 3, 0, 0))),
+    ("stated", example("stated"), hiding("stated.job", ("t.cert", "t.csv"), (6, 0, 0, 3, 0, 0))),
+    ("protected", example("protected"), hiding("turnover.job", ("turnover.cert", "turnover.csv"), (13, 0, 0, 9, 1, 4))),
+    ("rounded", example("rounded"), rounding("turnover.job", ("turnover.cert", "turnover.csv"), (13, 0, 0, 9, 1, 0), 0)),
+    ("by industry", BY_INDUSTRY, hiding("r.job", ("t.cert", "t.csv"), (9, 1, 2, 6, 2, 4))),
+    ("four cells", FOUR, rounding("r.job", ("t.cert", "t.csv"), (4, 0, 0, 9, 8, 0), 2)),
+    ("audited", example("audited"), rounding("known.job", ("known.cert", "known.csv"), (6, 0, 0, 4, 1, 0), 1, "known_audit.csv")),
+    ("guarded", example("insider"), hiding("guarded.job", ("guarded.cert", "guarded.extra", "guarded.csv"), (6, 0, 0, 4, 2, 3))),
+    ("subtotals", example("insider"), hiding("rest.job", ("rest.cert", "rest.extra", "rest.csv"), (10, 0, 0, 10, 6, 8))),
+    ("migrated", example("migrated"), MIGRATING),
     (
         "linked",
         example("linked", "firms.job", "FREQ(2,30)", "FREQ(3,30)"),
-        "firms.job",
-        ("firms.cert", "industry.csv", "size.csv"),
-        True,
+        hiding("firms.job", ("firms.cert", "industry.csv", "size.csv"), (16, 0, 0, 35, 16, 20)),
     ),
 )
 
@@ -91,45 +133,76 @@ def is_fine(answer, ample, names):
     """Whether a call answered as it may where a call for memory fails."""
     status, output, files = answer
     put = [name for name in names if name in files]
-    if any(files[name] != ample[2][name] for name in files) or len(files) != len(ample[2]) - len(names) + len(put):
+    if any(files[name] != ample[2].get(name) for name in files) or len(files) != len(ample[2]) - len(names) + len(put):
         return False
     if status == 7:
         return output in (b"memory\n", b"") and put == list(names[: len(put)])
     return status == ample[0] and output in (ample[1], b"") and files == ample[2]
 
 
-def tried(folder, title, words, names, library):
+def is_expected(ample, names, said):
+    """Whether a call with ample memory says this, and puts all its files, and those that are known as they should be."""
+    status, output, files = ample
+    known = all(files.get(name) == files.get(name + ".expected", files.get(name)) for name in names)
+    return status == 0 and output == said.encode() + b"\n" and known and all(name in files for name in names)
+
+
+def told(answer, ample):
+    """What a call answered, and the names of the files that aren't those with ample memory."""
+    status, output, files = answer
+    others = sorted(name for name in files.keys() | ample[2].keys() if files.get(name) != ample[2].get(name))
+    return f"status {status}, {output}, other files: {' '.join(others) or 'none'}"
+
+
+def failing(folder, words, names, library, ample, numbers):
+    """Those of the calls for memory, by number, whose failing ends otherwise than it may, with the answer."""
+    bad = []
+    for number in numbers:
+        answer = call(folder, words, names, library, FAIL_AT=str(number))
+        if not is_fine(answer, ample, names):
+            bad.append((number, answer))
+    return bad
+
+
+def tried(folder, title, words, names, said, library):
     """How many calls for memory there are whose failing ends otherwise than it may."""
     count_to = os.path.join(folder, "..", "count")
     ample = call(folder, words, names, library, COUNT_TO=count_to)
     with open(count_to, encoding="ascii") as source:
         calls = int(source.read())
-    bad = 0 if ample[0] == 0 else 1
-    for number in range(1, calls + 1):
-        answer = call(folder, words, names, library, FAIL_AT=str(number))
-        if not is_fine(answer, ample, names):
-            bad += 1
-            print(f"{title}: {words[0]}: call {number}: {answer}")
+    bad = 0
+    if not is_expected(ample, names, said):
+        bad += 1
+        print(f"{title}: {words[0]}: with ample memory: {ample}")
+    with tempfile.TemporaryDirectory() as scratch, concurrent.futures.ThreadPoolExecutor(AT_ONCE) as pool:
+        # Calls side by side have a folder each.
+        shares = [(shutil.copytree(folder, os.path.join(scratch, str(k))), range(k + 1, calls + 1, AT_ONCE)) for k in range(AT_ONCE)]
+        for found in pool.map(lambda share: failing(share[0], words, names, library, ample, share[1]), shares):
+            bad += len(found)
+            for number, answer in found:
+                print(f"{title}: {words[0]}: call {number}: {told(answer, ample)}")
     print(f"{title}: {words[0]}: {calls} calls for memory, each failing in turn: {ample[1].decode().strip()}", flush=True)
-    call(folder, words, names, library)
     return bad
 
 
 def main():
+    titles = sys.argv[2:] or [title for title, _, _ in JOBS]
+    if not {*titles} <= {title for title, _, _ in JOBS}:
+        sys.exit(__doc__)
     bad = 0
     with tempfile.TemporaryDirectory() as scratch:
         library = os.path.join(scratch, "failing.so")
         subprocess.run(["cc", "-O2", "-shared", "-fPIC", "-o", library, os.path.join(HERE, "failing.c"), "-ldl"], check=True)
-        for title, files, job, names, hides in JOBS:
+        for title, files, calls in JOBS:
+            if title not in titles:
+                continue
             folder = os.path.join(scratch, title)
             os.mkdir(folder)
             for name, text in files.items():
                 with open(os.path.join(folder, name), "wb") as out:
                     out.write(text)
-            bad += tried(folder, title, ["run", job], names, library)
-            bad += tried(folder, title, ["check", job], (), library)
-            if hides:
-                bad += tried(folder, title, ["intervals", job, OUT], (OUT,), library)
+            for words, names, said in calls:
+                bad += tried(folder, title, words, names, said, library)
     return 1 if bad else 0
 
 
