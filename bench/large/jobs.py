@@ -62,10 +62,10 @@ def records(name, seed):
     return [(place, int(min(9e8, math.exp(numbers.gauss(6, 1.8)))) + 1) for place in zip(*columns)]
 
 
-def metadata(name):
+def metadata(variables):
+    """The metadata of records whose variables have so many characters for each level, with a turnover behind them."""
     lines, first = "", 1
-    for letter, levels in zip(NAMES, JOBS[name][0]):
-        digits = widths(levels)
+    for letter, digits in zip(NAMES, variables):
         lines += f"{letter} {first} {sum(digits)}\n<RECODEABLE>\n"
         if len(digits) > 1:
             lines += "<HIERARCHICAL>\n<HIERLEVELS> " + " ".join(map(str, digits)) + "\n"
@@ -74,24 +74,31 @@ def metadata(name):
 
 
 def write(folder, name, seed):
-    """Writes the files of a job, and gives the cells of its table."""
-    firms = records(name, seed)
-    spanned = "".join(f'"{letter}"' for letter in NAMES[: len(JOBS[name][0])])
+    """Writes the files of a made job, and gives the cells of its table."""
+    return write_job(folder, [widths(levels) for levels in JOBS[name][0]], records(name, seed))
+
+
+def write_job(folder, variables, firms):
+    """Writes the files of a job, and gives the cells of its table.
+
+    Of each variable it is said how many characters the codes of each level have; a record is its codes and a whole number.
+    """
+    spanned = "".join(f'"{letter}"' for letter in NAMES[: len(variables)])
     for file, text in (
         ("r.job", JOB.format(spanned, PERCENT)),
-        ("m.rda", metadata(name)),
+        ("m.rda", metadata(variables)),
         ("m.asc", "".join("".join(place) + f"{value:9d}\n" for place, value in firms)),
     ):
         with open(os.path.join(folder, file), "w", encoding="ascii") as out:
             out.write(text)
-    return Survey(JOBS[name][0], firms)
+    return Survey(variables, firms)
 
 
 class Tree:
     """The codes of a variable that occur, in preorder behind the total, each with the place of its parent."""
 
-    def __init__(self, levels, used):
-        ends = [sum(widths(levels)[:k]) for k in range(len(levels) + 1)]
+    def __init__(self, digits, used):
+        ends = [sum(digits[:k]) for k in range(len(digits) + 1)]
         nodes = sorted({code[:end] for code in used for end in ends})
         self.places = {node: place for place, node in enumerate(nodes)}
         self.ups = {code: [self.places[code[:end]] for end in ends] for code in used}
@@ -106,7 +113,7 @@ class Survey:
     """The cells of a job's table by their numbers: truths, upper levels of the primary ones, and relations."""
 
     def __init__(self, variables, firms):
-        trees = [Tree(levels, {place[k] for place, _ in firms}) for k, levels in enumerate(variables)]
+        trees = [Tree(digits, {place[k] for place, _ in firms}) for k, digits in enumerate(variables)]
         sizes = [len(tree.places) for tree in trees]
         self.number = {place: k for k, place in enumerate(product(*map(range, sizes)))}
         values = [[] for _ in self.number]

@@ -3,7 +3,8 @@
 
 usage: run.py PROGRAM [JOB..]
 
-For each job of jobs.py, or for those that are named, and for three seeds each it calls `run`, `check` and `intervals`. Then it writes questions
+For each job of jobs.py with three seeds each, and for the public data of laeken.py (job `laeken`, without a seed), or for those of them that are
+named, it calls `run`, `check` and `intervals`. Where the data aren't there, a line says so, and the job is left out. Then it writes questions
 about the hidden set of the certificate as linear problems: those of its protection (a primary cell to a side, with its level as target), and those
 of the intervals (a hidden cell to a side, with target 2^110). Each is solved by `esolver` of Debian's package qsopt-ex, one process a problem,
 reading included. Of more than QUESTIONS (of the environment, 100 where nothing is said) so many are drawn at random, and their time is
@@ -19,9 +20,11 @@ import sys
 import tempfile
 
 import jobs
+import laeken
 
 peers = jobs.peers
 SEEDS = (1, 2, 3)
+PUBLIC = "laeken"
 QUESTIONS = int(os.environ.get("QUESTIONS", "100"))
 SECONDS = int(os.environ.get("SECONDS", "600"))
 COLUMNS = ("job", "seed", "cells", "primary", "hidden", "run", "check", "intervals", "levels", "ratio", "ends", "ratio")
@@ -85,10 +88,15 @@ def ratio(ours, theirs):
     return "%.1f" % (ours / theirs) if theirs else "-"
 
 
+def write(folder, name, seed):
+    """Writes the files of a job, and gives the cells of its table."""
+    return laeken.write(folder) if name == PUBLIC else jobs.write(folder, name, seed)
+
+
 def measure(program, name, seed):
     """A line of the table, and how many answers of QSopt_ex differ."""
     with tempfile.TemporaryDirectory() as folder:
-        survey = jobs.write(folder, name, seed)
+        survey = write(folder, name, seed)
         line = [name, str(seed), str(len(survey.truths)), str(sum(level is not None for level in survey.levels))]
         said, ran = called(program, ["run", "r.job"], folder)
         if said is None:
@@ -109,9 +117,13 @@ def main():
     differ = 0
     print("| " + " | ".join(COLUMNS) + " |", flush=True)
     print("|---" * len(COLUMNS) + "|", flush=True)
-    for name in sys.argv[2:] or jobs.JOBS:
-        for seed in SEEDS:
-            line, more = measure(program, name, seed)
+    for name in sys.argv[2:] or [*jobs.JOBS, PUBLIC]:
+        for seed in ("-",) if name == PUBLIC else SEEDS:
+            try:
+                line, more = measure(program, name, seed)
+            except laeken.NoData as reason:
+                print(reason, file=sys.stderr)
+                continue
             differ += more
             print("| " + " | ".join(line) + " |", flush=True)
     print("answers that differ: %d" % differ)
