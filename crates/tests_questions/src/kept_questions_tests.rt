@@ -125,6 +125,9 @@ fn walked_multipliers(
     if cells.len() != size || flags.len() != size || size <= 13 || !flags[13] {
         return None;
     }
+    if target < 0 || target > 100 {
+        return None;
+    }
     let question = Question {
         cell: 13,
         side,
