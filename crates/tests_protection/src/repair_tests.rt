@@ -17,7 +17,10 @@ use std::rt::HostRuntime;
 use std::test::Fail;
 
 // A cell of a job: its truth, its kind, the level to both sides of a primary one, and bounds where they are stated.
-type Row = (u32, Kind, u8, Option<(u32, u32)>);
+type Row = (u32, Kind, u8, Option<(u32, i128)>);
+
+// An upper bound of more than 64 bits, in which no table is kept: so the walk is asked.
+const FAR: i128 = 18_446_744_073_709_551_616;
 
 // What is to be protected: cells, relations, and the corners of one step of the trail, none where there is no step.
 #[derive(Clone, Copy)]
@@ -38,21 +41,16 @@ fn cell_in(row: Row) -> Cell {
 }
 
 // A cell that isn't primary, with bounds that the truth is within.
-fn bounded_cell(truth: u32, bounds: Option<(u32, u32)>, kind: Kind) -> Cell
+fn bounded_cell(truth: u32, bounds: Option<(u32, i128)>, kind: Kind) -> Cell
     requires kind { kind ≢ Primary }
 {
     let Some((low, high)) = bounds else {
         return shown_cell(i128::from(truth), 0, None, kind);
     };
-    if low > truth || truth > high {
+    if low > truth || i128::from(truth) > high {
         return shown_cell(i128::from(truth), 0, None, kind);
     }
-    shown_cell(
-        i128::from(truth),
-        i128::from(low),
-        Some(i128::from(high)),
-        kind,
-    )
+    shown_cell(i128::from(truth), i128::from(low), Some(high), kind)
 }
 
 fn cells_of(alloc: Global, job: Job<'_>) -> Result<Vec<Cell>, Fail> {
@@ -385,7 +383,7 @@ const REPAIR_BESIDE_A_RING: Job<'static> = Job {
     rows: &[
         (17, Kind::Fixed, 0, None),
         (5, Kind::Primary, 5, None),
-        (2, Kind::Free, 0, None),
+        (2, Kind::Free, 0, Some((0, FAR))),
         (2, Kind::Free, 0, None),
         (8, Kind::Free, 0, None),
         (20, Kind::Fixed, 0, None),
@@ -413,7 +411,7 @@ const NEED_BESIDE_A_RING: Job<'static> = Job {
         (5, Kind::Primary, 5, None),
         (10, Kind::Free, 0, None),
         (10, Kind::Free, 0, None),
-        (4, Kind::Free, 0, None),
+        (4, Kind::Free, 0, Some((0, FAR))),
         (6, Kind::Free, 0, None),
         (20, Kind::Fixed, 0, None),
         (20, Kind::Fixed, 0, None),
