@@ -35,6 +35,8 @@ import mistakes  # noqa: E402
 
 EXPLAIN = os.path.join(TOP, "explain")
 JOBS = os.path.join(HERE, "jobs")
+# Of the examples that bench/damage damages the first five are explained; explaining damaged files of contributors isn't tried.
+EXPLAINED = 5
 # What is done to each job that can't be protected where no lines are printed to be saved: these lines of its a priori file go.
 DELETED = {"01": [2], "02": [1, 2], "03": [2], "04": [1], "05": [2], "06": [1]}
 HEADS = ("refused: ", "cannot protect ", "not accepted: ", "not guarded: ", "undecided: ", "no rounding")
@@ -327,16 +329,16 @@ class Damaged:
 def damages(tally, program, count):
     it, draw, statuses = damage(), random.Random(11), collections.Counter()
     whole = {}
-    for example, job in it["JOBS"]:
+    for example, job, _ in it["JOBS"][:EXPLAINED]:
         with Room(os.path.join(TOP, "examples", example)):
             ask(program, ["run", job])
             whole[example] = {name: data for name, data in it["contents"](".").items() if not name.endswith((".txt", ".expected", ".md", ".gitignore"))}
     for number in range(count):
-        example, job = draw.choice(it["JOBS"])
+        example, job, _ = draw.choice(it["JOBS"][:EXPLAINED])
         files = dict(whole[example])
         name, other = draw.choice(sorted(files)), draw.choice(sorted(files))
         files[name] = it["damaged"](draw, files[name], files[other])
-        words = it["words_for"](draw, name, job)
+        words = it["words_for"](draw, name, job, ("intervals",))
         with Room():
             try:
                 statuses[Damaged(tally, program, words, whole[example], files, name).try_it(number)] += 1

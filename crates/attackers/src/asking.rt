@@ -19,6 +19,10 @@ use sdc_base::{Hidden, Memory, Side};
 use std::alloc::Global;
 use worlds::{Multipliers, Pattern, check_refutation};
 
+// The fewest steps that a job may allow for multipliers to be taken from what is kept. Where it allows fewer the walk is
+// asked, so that work is cut off as the job wants it.
+const LEAST_LIMIT: u64 = 1_000;
+
 /// Whether a hidden set, without what the contributor knows, takes the cell of an attack as far as its level: asked of
 /// what is kept, or else of the walk.
 pub(crate) fn ask_against(
@@ -59,6 +63,27 @@ pub(crate) fn questions_about(
 
 // Whether a hidden set takes a primary cell to a side as far as its level, asked of what is kept, where it has an answer.
 fn ask_kept(
+    alloc: Global,
+    siege: &Siege<'_>,
+    left: &Hidden,
+    asked: (u32, Side),
+    kept: &mut Option<KeptQuestions>,
+) -> Option<KeptAnswer>
+    requires ground { IsGround siege.now.system.now siege.now.cells.now left.now.flags }
+    requires primary { IsOfKind siege.now.cells.now asked.0 PrimaryKind }
+    requires hidden { is_hidden left.now.flags asked.0 ≡ true }
+    ensures answer { IfSome result (λ answer. IsLevelAnswer siege.now.system.now siege.now.cells.now left.now.flags asked
+        answer) }
+{
+    let answer = ask_table(alloc, siege, left, asked, kept)?;
+    if siege.limit < LEAST_LIMIT && matches!(&answer, KeptAnswer::Stops(_)) {
+        return None;
+    }
+    Some(answer)
+}
+
+// What the kept table answers, however few steps the job allows.
+fn ask_table(
     alloc: Global,
     siege: &Siege<'_>,
     left: &Hidden,

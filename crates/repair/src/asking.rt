@@ -13,6 +13,10 @@ use sdc_base::{Hidden, Side};
 use std::alloc::Global;
 use worlds::Pattern;
 
+// The fewest steps that a job may allow for multipliers to be taken from what is kept. Where it allows fewer the walk is
+// asked, so that work is cut off as the job wants it.
+const LEAST_LIMIT: u64 = 1_000;
+
 // Questions about these hidden cells, kept from one to the next; none where the system has signs, whose questions are
 // quick without.
 pub(crate) fn questions_about(
@@ -50,6 +54,26 @@ pub(crate) fn ask_level(
 
 // The same, asked of what is kept, where it has an answer.
 pub(crate) fn ask_kept(
+    alloc: Global,
+    task: &Task<'_, '_>,
+    hidden: &Hidden,
+    asked: (u32, Side),
+    kept: &mut Option<KeptQuestions>,
+) -> Option<KeptAnswer>
+    requires set { IsPermittedSet (case_of task.now) hidden.now.flags }
+    requires primary { IsOfKind task.now.cells.now asked.0 PrimaryKind }
+    ensures answer { IfSome result (λ answer. IsLevelAnswer task.now.system.now task.now.cells.now
+        hidden.now.flags asked answer) }
+{
+    let answer = ask_table(alloc, task, hidden, asked, kept)?;
+    if task.limit < LEAST_LIMIT && matches!(&answer, KeptAnswer::Stops(_)) {
+        return None;
+    }
+    Some(answer)
+}
+
+// What the kept table answers, however few steps the job allows.
+fn ask_table(
     alloc: Global,
     task: &Task<'_, '_>,
     hidden: &Hidden,

@@ -6,7 +6,7 @@ use Rattle.interval_audit.specs.Answers.{IsTrueAnswer}
 use Rattle.interval_audit.specs.declared.answer.Answer.TheVariants as answer
 use Rattle.kept_questions.specs.KeptAnswers.{IsKeptStop}
 use Rattle.repair.proofs.Answering.{kept_answers}
-use Rattle.attackers.proofs.asking.ask_kept.Goals as goal
+use Rattle.attackers.proofs.asking.ask_table.Goals as goal
 
 pub ask-requires : goal.ask-requires
 ask-requires c = record {
