@@ -7,6 +7,16 @@ pub(crate) struct Entry {
     pub(crate) number: i64,
 }
 
+impl Entry {
+    // One that says nothing.
+    pub(crate) fn none() -> Entry {
+        Entry {
+            variable: 0,
+            number: 0,
+        }
+    }
+}
+
 // No list has so many entries that it can be halved more often.
 const MOST_HALVINGS: u32 = 64;
 

@@ -11,31 +11,39 @@ pub(crate) struct Pair<'a> {
     pub(crate) without: usize,
 }
 
-// How many entries of each are passed.
+// How many entries of each are passed, and how many are put.
 #[derive(Clone, Copy)]
 struct Passed {
     own: usize,
     other: usize,
+    put: usize,
 }
 
-// Adds them in a list, whose entries go; none where a number leaves 64 bits or memory is wanting.
-pub(crate) fn merge(pair: Pair<'_>, made: &mut Vec<Entry>) -> Option<()> {
-    made.clear();
-    let passed = merge_both(pair, made)?;
-    put_rest(pair, made, pair.own, passed.own, pair.times)?;
-    put_rest(pair, made, pair.other, passed.other, pair.more)
+// Adds them at the front of a list that has room for each variable, and gives how many entries there are; none where a
+// number leaves 64 bits.
+pub(crate) fn merge(pair: Pair<'_>, made: &mut [Entry]) -> Option<usize> {
+    let mut passed = merge_both(pair, made)?;
+    let own = pair.own.get(passed.own..)?;
+    let other = pair.other.get(passed.other..)?;
+    put_all(made, &mut passed, own, pair.times, pair.without)?;
+    put_all(made, &mut passed, other, pair.more, pair.without)?;
+    Some(passed.put)
 }
 
 // Goes through both lists until one is passed.
-fn merge_both(pair: Pair<'_>, made: &mut Vec<Entry>) -> Option<Passed> {
-    let mut passed = Passed { own: 0, other: 0 };
+fn merge_both(pair: Pair<'_>, made: &mut [Entry]) -> Option<Passed> {
+    let mut passed = Passed {
+        own: 0,
+        other: 0,
+        put: 0,
+    };
     let most = pair.own.len().checked_add(pair.other.len())?;
     'entries: for _ in 0..most {
         if passed.own >= pair.own.len() || passed.other >= pair.other.len() {
             return Some(passed);
         }
         let entry = next_entry(pair, &mut passed)?;
-        put(made, entry, pair.without)?;
+        put(made, &mut passed, entry, pair.without)?;
     }
     Some(passed)
 }
@@ -58,27 +66,29 @@ fn next_entry(pair: Pair<'_>, passed: &mut Passed) -> Option<Entry> {
     Some(Entry { variable, number })
 }
 
-// Puts the entries of a list from a place on behind, each so many times.
-fn put_rest(
-    pair: Pair<'_>,
-    made: &mut Vec<Entry>,
+// Puts the entries of a list, each so many times.
+fn put_all(
+    made: &mut [Entry],
+    passed: &mut Passed,
     list: &[Entry],
-    from: usize,
     times: i64,
+    without: usize,
 ) -> Option<()> {
-    for place in from..list.len() {
-        let entry = list.get(place)?;
+    for entry in list {
         let variable = entry.variable;
         let number = entry.number.checked_mul(times)?;
-        put(made, Entry { variable, number }, pair.without)?;
+        put(made, passed, Entry { variable, number }, without)?;
     }
     Some(())
 }
 
-// Puts an entry behind, unless its number is 0 or it stands at the variable that goes.
-fn put(made: &mut Vec<Entry>, entry: Entry, without: usize) -> Option<()> {
+// Puts an entry behind those that are put, unless its number is 0 or it stands at the variable that goes.
+fn put(made: &mut [Entry], passed: &mut Passed, entry: Entry, without: usize) -> Option<()> {
     if entry.number == 0 || entry.variable == without {
         return Some(());
     }
-    made.push(entry).ok()
+    let slot = made.get_mut(passed.put)?;
+    *slot = entry;
+    passed.put = passed.put.checked_add(1)?;
+    Some(())
 }

@@ -4,9 +4,11 @@ use crate::entry::{Entry, number_at};
 use crate::merge::{Pair, merge};
 use crate::row::{Row, make_lowest, value_of};
 use crate::table::Table;
-use crate::variable::{State, Variable};
+use crate::variable::State;
 use std::alloc::Global;
-use std::mem;
+
+// From which den on a row is brought to lowest terms: small ones leave room for some exchanges more.
+const LARGE_DEN: i64 = 1 << 20;
 
 // Makes a variable basic in a row, whose basic one is left standing in a state. None where a number leaves 64 or 128
 // bits, there is nothing to exchange or no memory; then the table is of no use.
@@ -17,22 +19,22 @@ pub(crate) fn pivot(
     entering: usize,
     state: State,
 ) -> Option<()> {
-    let old = table.rows.get(row)?;
-    let leaving = old.basic;
-    let mut solved = solve(alloc, old, entering)?;
+    let leaving = table.rows.get(row)?.basic;
+    let goes = table.goes(leaving);
+    let before = table.variable(entering)?.stand();
+    let mut solved = solve(alloc, table.rows.get(row)?, entering, goes)?;
     table.put_state(leaving, state)?;
     table.put_basic(entering, row)?;
     solved.value = value_of(&solved.entries, &table.variables)?;
-    substitute_all(table, row, &solved)?;
-    let objective = &mut table.objective;
-    substitute(objective, &solved, &table.variables, &mut table.made)?;
+    substitute_all(table, row, &solved, before)?;
+    substitute(&mut table.objective, &solved, before, &mut table.made)?;
     let place = table.rows.get_mut(row)?;
     *place = solved;
     Some(())
 }
 
 // A row solved for a nonbasic variable of it; its value is still to be taken.
-fn solve(alloc: Global, old: &Row, entering: usize) -> Option<Row> {
+fn solve(alloc: Global, old: &Row, entering: usize, goes: bool) -> Option<Row> {
     let number = number_at(&old.entries, entering);
     if number == 0 {
         return None;
@@ -46,11 +48,26 @@ fn solve(alloc: Global, old: &Row, entering: usize) -> Option<Row> {
         basic: entering,
         den: number.checked_abs()?,
         value: 0,
-        entries: solved_entries(alloc, &old.entries, own, entering)?,
+        entries: if goes {
+            entries_without(alloc, &old.entries, entering)?
+        } else {
+            solved_entries(alloc, &old.entries, own, entering)?
+        },
     };
     turn_others(&mut solved.entries, old.basic, turn.checked_neg()?)?;
     make_lowest(&mut solved)?;
     Some(solved)
+}
+
+// The entries of a list without a variable.
+fn entries_without(alloc: Global, entries: &[Entry], without: usize) -> Option<Vec<Entry>> {
+    let mut others = Vec::new(alloc);
+    for entry in entries {
+        if entry.variable != without {
+            others.push(*entry).ok()?;
+        }
+    }
+    Some(others)
 }
 
 // The entries of a list without a variable, and one more entry in its place.
@@ -87,23 +104,18 @@ fn turn_others(entries: &mut [Entry], but: usize, turn: i64) -> Option<()> {
     Some(())
 }
 
-// Takes the solved variable out of all rows but one.
-fn substitute_all(table: &mut Table, but: usize, solved: &Row) -> Option<()> {
+// Takes the solved variable, which stood somewhere, out of all rows but one.
+fn substitute_all(table: &mut Table, but: usize, solved: &Row, before: i64) -> Option<()> {
     for (place, row) in table.rows.iter_mut().enumerate() {
         if place != but {
-            substitute(row, solved, &table.variables, &mut table.made)?;
+            substitute(row, solved, before, &mut table.made)?;
         }
     }
     Some(())
 }
 
-// Takes the solved variable out of a row.
-fn substitute(
-    row: &mut Row,
-    solved: &Row,
-    variables: &[Variable],
-    made: &mut Vec<Entry>,
-) -> Option<()> {
+// Takes the solved variable, which stood somewhere, out of a row.
+fn substitute(row: &mut Row, solved: &Row, before: i64, made: &mut [Entry]) -> Option<()> {
     let number = number_at(&row.entries, solved.basic);
     if number == 0 {
         return Some(());
@@ -111,17 +123,33 @@ fn substitute(
     let common = divisor_of(number.unsigned_abs(), solved.den.unsigned_abs());
     let by = i64::try_from(common).ok()?;
     let times = solved.den.checked_div(by)?;
+    let more = number.checked_div(by)?;
     let pair = Pair {
         own: &row.entries,
         times,
         other: &solved.entries,
-        more: number.checked_div(by)?,
+        more,
         without: solved.basic,
     };
-    merge(pair, made)?;
-    mem::swap(&mut row.entries, made);
+    let length = merge(pair, made)?;
+    let others = row.value.checked_sub(product(number, before)?)?;
+    row.value = sum_of(others, times, solved.value, more)?;
+    row.entries.clear();
+    row.entries.extend_from_slice(made.get(..length)?).ok()?;
     row.den = row.den.checked_mul(times)?;
-    make_lowest(row)?;
-    row.value = value_of(&row.entries, variables)?;
-    Some(())
+    if row.den < LARGE_DEN {
+        return Some(());
+    }
+    make_lowest(row)
+}
+
+// A product of two numbers.
+fn product(one: i64, other: i64) -> Option<i128> {
+    i128::from(one).checked_mul(i128::from(other))
+}
+
+// A sum of values, each so many times.
+fn sum_of(one: i128, times: i64, other: i128, more: i64) -> Option<i128> {
+    let left = one.checked_mul(i128::from(times))?;
+    left.checked_add(other.checked_mul(i128::from(more))?)
 }

@@ -26,7 +26,7 @@ pub(crate) fn value_of(entries: &[Entry], variables: &[Variable]) -> Option<i128
     Some(value)
 }
 
-// Divides a row's den and numbers by what divides them all; its value is to be taken anew.
+// Divides a row's den, numbers and value by what divides them all.
 pub(crate) fn make_lowest(row: &mut Row) -> Option<()> {
     let common = divisor_with(row.den.unsigned_abs(), &row.entries);
     if common <= 1 {
@@ -34,7 +34,16 @@ pub(crate) fn make_lowest(row: &mut Row) -> Option<()> {
     }
     let by = i64::try_from(common).ok()?;
     row.den = row.den.checked_div(by)?;
+    row.value = row.value.checked_div(i128::from(by))?;
     divide(&mut row.entries, by)
+}
+
+// The same of all rows of a table.
+pub(crate) fn make_all_lowest(rows: &mut [Row]) -> Option<()> {
+    for row in rows.iter_mut() {
+        make_lowest(row)?;
+    }
+    Some(())
 }
 
 // What divides a number and all numbers of a list.

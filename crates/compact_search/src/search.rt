@@ -6,8 +6,9 @@ use crate::leaving_out::drive_out;
 use crate::lists_read::lists_of;
 use crate::multipliers_read::multipliers_of;
 use crate::returning::return_to_truths;
+use crate::row::{make_all_lowest, make_lowest};
 use crate::start::first_table;
-use crate::table::Table;
+use crate::table::{Slacks, Table};
 use crate::walk::{Beyond, End, walk};
 use crate::world_read::{scale_to, world_of};
 use sdc_base::{Cell, Fraction, Side, System};
@@ -17,13 +18,15 @@ use std::alloc::Global;
 ///
 /// Nothing that it finds is proved: check it before it counts. The table is that of a bounded simplex in whole numbers
 /// of 64 bits, its values and comparisons in 128, and each question begins where the one before ended. Ties go by small
-/// amounts that each bound has of its own, so that no walk goes in a circle. Where a number leaves its bits, memory is
-/// wanting or the steps run out, a call gives none and the next one begins with a new table.
+/// amounts that each bound has of its own, so that no walk goes in a circle. A question ends without an exchange where
+/// the target lies before the next bound. Where a number leaves its bits, memory is wanting or the steps run out, a call
+/// gives none and the next one begins with a new table.
 #[derive(Drop)]
 pub struct CompactSearch {
     component: Component,
     // For each cell of the component whether it is left out.
     out: Vec<bool>,
+    slacks: Slacks,
     table: Option<Table>,
 }
 
@@ -38,13 +41,20 @@ impl CompactSearch {
         relations: &[u32],
     ) -> Option<CompactSearch> {
         let component = component_of(alloc, system, cells, flags, relations)?;
-        let out = Vec::from_elem(alloc, false, component.cells.len()).ok()?;
-        let table = first_table(alloc, &component, &out)?;
-        Some(CompactSearch {
-            component,
-            out,
-            table: Some(table),
-        })
+        search_with(alloc, component, Slacks::Stay)
+    }
+
+    /// The same for worlds alone: where no world reaches a question's target, nothing is found. The slacks of relations
+    /// that have left the basis are dropped, since each stands at 0, so that the equations are shorter.
+    pub fn for_worlds(
+        alloc: Global,
+        system: &System,
+        cells: &[Cell],
+        flags: &[bool],
+        relations: &[u32],
+    ) -> Option<CompactSearch> {
+        let component = component_of(alloc, system, cells, flags, relations)?;
+        search_with(alloc, component, Slacks::Go)
     }
 
     /// Lets all cells stand at their truths again, where the next question then begins. What it finds moves fewer cells
@@ -63,7 +73,7 @@ impl CompactSearch {
         let mut table = self.take_table(alloc)?;
         match drive_out(alloc, &mut table, place) {
             Some(()) => self.table = Some(table),
-            None => self.table = Some(first_table(alloc, &self.component, &self.out)?),
+            None => self.table = Some(first_table(alloc, &self.component, &self.out, self.slacks)?),
         }
         Some(())
     }
@@ -93,6 +103,10 @@ impl CompactSearch {
         let rises = matches!(&side, Side::Above);
         aim(alloc, &mut table, place, rises)?;
         let end = walk(alloc, &mut table, target, most_steps)?;
+        if matches!(&end, End::Blocked) {
+            make_all_lowest(&mut table.rows)?;
+            make_lowest(&mut table.objective)?;
+        }
         let found = self.found_of(alloc, &table, end, cell, target);
         self.table = Some(table);
         found
@@ -102,7 +116,7 @@ impl CompactSearch {
     fn take_table(&mut self, alloc: Global) -> Option<Table> {
         match self.table.take() {
             Some(table) => Some(table),
-            None => first_table(alloc, &self.component, &self.out),
+            None => first_table(alloc, &self.component, &self.out, self.slacks),
         }
     }
 
@@ -117,8 +131,8 @@ impl CompactSearch {
     ) -> Option<Found> {
         match end {
             End::There => self.reached(alloc, table, None, cell, target),
-            End::Open(beyond) => self.reached(alloc, table, Some(beyond), cell, target),
-            End::Blocked => self.stopped(alloc, table),
+            End::Beyond(beyond) => self.reached(alloc, table, Some(beyond), cell, target),
+            End::Blocked => self.blocked(alloc, table),
         }
     }
 
@@ -133,6 +147,14 @@ impl CompactSearch {
     ) -> Option<Found> {
         let world = world_of(alloc, table, &self.component.cells, beyond)?;
         Some(Found::Reaches(scale_to(alloc, world, cell, target)?))
+    }
+
+    // What a blocked table says: nothing where its slacks are dropped.
+    fn blocked(&self, alloc: Global, table: &Table) -> Option<Found> {
+        match &self.slacks {
+            Slacks::Stay => self.stopped(alloc, table),
+            Slacks::Go => None,
+        }
     }
 
     // Where a blocked table stops.
@@ -152,6 +174,18 @@ impl CompactSearch {
             lists: lists_of(alloc, table, component)?,
         }))
     }
+}
+
+// A search over a component of which no question has been asked.
+fn search_with(alloc: Global, component: Component, slacks: Slacks) -> Option<CompactSearch> {
+    let out = Vec::from_elem(alloc, false, component.cells.len()).ok()?;
+    let table = first_table(alloc, &component, &out, slacks)?;
+    Some(CompactSearch {
+        component,
+        out,
+        slacks,
+        table: Some(table),
+    })
 }
 
 // Puts the flag at a place.

@@ -3,12 +3,17 @@ use crate::bounds::Bounds;
 use crate::component::Component;
 use crate::entry::Entry;
 use crate::row::Row;
-use crate::table::Table;
+use crate::table::{Slacks, Table};
 use crate::variable::{State, Variable};
 use std::alloc::Global;
 
 // That table, with these flags of cells that are left out; none where memory is wanting.
-pub(crate) fn first_table(alloc: Global, component: &Component, out: &[bool]) -> Option<Table> {
+pub(crate) fn first_table(
+    alloc: Global,
+    component: &Component,
+    out: &[bool],
+    slacks: Slacks,
+) -> Option<Table> {
     let cells = component.cells.len();
     let mut variables = cell_variables(alloc, &component.bounds, out)?;
     let mut rows = Vec::new(alloc);
@@ -17,11 +22,14 @@ pub(crate) fn first_table(alloc: Global, component: &Component, out: &[bool]) ->
         rows.push(row).ok()?;
         variables.push(slack(place)).ok()?;
     }
+    let room = variables.len();
     Some(Table {
         rows,
         objective: row_of(alloc, &[], usize::MAX)?,
         variables,
-        made: Vec::new(alloc),
+        cells,
+        slacks,
+        made: Vec::from_elem(alloc, Entry::none(), room).ok()?,
     })
 }
 

@@ -2,7 +2,7 @@
 use crate::bound_change::change_bound;
 use crate::entering::Entering;
 use crate::pivot::pivot;
-use crate::ratio::first_limit;
+use crate::ratio::{Limit, first_limit};
 use crate::table::Table;
 use std::alloc::Global;
 
@@ -12,9 +12,19 @@ pub(crate) fn step(alloc: Global, table: &mut Table, entering: Entering) -> Opti
     let Some(limit) = first_limit(alloc, table, entering)? else {
         return Some(false);
     };
-    match limit.row {
-        None => change_bound(table, entering.variable, limit.state)?,
-        Some(row) => pivot(alloc, table, row, entering.variable, limit.state)?,
-    }
+    step_to(alloc, table, entering, limit)?;
     Some(true)
+}
+
+// Lets a variable enter up to its first bound.
+pub(crate) fn step_to(
+    alloc: Global,
+    table: &mut Table,
+    entering: Entering,
+    limit: Limit,
+) -> Option<()> {
+    match limit.row {
+        None => change_bound(table, entering.variable, limit.state),
+        Some(row) => pivot(alloc, table, row, entering.variable, limit.state),
+    }
 }

@@ -1,7 +1,8 @@
 // The walk of a question: steps until the objective reaches its target or the table is blocked.
 use crate::entering::{Entering, best_entering};
 use crate::entry::number_at;
-use crate::stepping::step;
+use crate::ratio::{Limit, first_limit};
+use crate::stepping::step_to;
 use crate::table::Table;
 use std::alloc::Global;
 
@@ -17,8 +18,8 @@ pub(crate) struct Beyond {
 pub(crate) enum End {
     // The objective is at its target or past it.
     There,
-    // It is once a variable that nothing stops goes so far.
-    Open(Beyond),
+    // It is once a variable goes so far, which nothing stops before.
+    Beyond(Beyond),
     // Nothing takes it further.
     Blocked,
 }
@@ -43,10 +44,30 @@ fn walk_once(alloc: Global, table: &mut Table, target: i128) -> Option<Option<En
     let Some(entering) = best_entering(table) else {
         return Some(Some(End::Blocked));
     };
-    if step(alloc, table, entering)? {
-        return Some(None);
+    let beyond = beyond_of(table, entering, lack)?;
+    let first = first_limit(alloc, table, entering)?;
+    let Some(limit) = unless_within(beyond, first) else {
+        return Some(Some(End::Beyond(beyond)));
+    };
+    step_to(alloc, table, entering, limit)?;
+    Some(None)
+}
+
+// The first limit of a variable, unless it lies no nearer than the variable goes.
+fn unless_within(beyond: Beyond, first: Option<Limit>) -> Option<Limit> {
+    let limit = first?;
+    if is_within(beyond, limit) {
+        return None;
     }
-    Some(Some(End::Open(beyond_of(table, entering, lack)?)))
+    Some(limit)
+}
+
+// Whether a variable goes no further than to its limit. A product that leaves 128 bits is beyond each limit.
+fn is_within(beyond: Beyond, limit: Limit) -> bool {
+    match beyond.by.checked_mul(i128::from(limit.per)) {
+        Some(far) => far.unsigned_abs() <= limit.gap.unsigned_abs(),
+        None => false,
+    }
 }
 
 // What the objective lacks, times its den.
@@ -55,7 +76,7 @@ fn lack_of(table: &Table, target: i128) -> Option<i128> {
     whole.checked_sub(table.objective.value)
 }
 
-// How far a variable that nothing stops has to go.
+// How far a variable has to go.
 fn beyond_of(table: &Table, entering: Entering, lack: i128) -> Option<Beyond> {
     let number = number_at(&table.objective.entries, entering.variable);
     let each = i128::from(number.checked_abs()?);

@@ -3,6 +3,13 @@ use compact_search::CompactSearch;
 use sdc_base::{Cell, System, is_hidden};
 use std::alloc::Global;
 
+// What a search finds: worlds alone, or multipliers as well.
+#[derive(Clone, Copy)]
+pub(crate) enum Finds {
+    Worlds,
+    Multipliers,
+}
+
 #[derive(Drop)]
 pub(crate) struct KeptSearch {
     pub(crate) search: CompactSearch,
@@ -18,13 +25,17 @@ pub(crate) fn kept_search(
     cells: &[Cell],
     members: Vec<u32>,
     met: &[u32],
+    finds: Finds,
 ) -> Option<KeptSearch> {
     let mut flags = Vec::from_elem(alloc, false, cells.len()).ok()?;
     for number in &members {
         let slot = flags.get_mut(*number as usize)?;
         *slot = true;
     }
-    let search = CompactSearch::new(alloc, system, cells, &flags, met)?;
+    let search = match finds {
+        Finds::Worlds => CompactSearch::for_worlds(alloc, system, cells, &flags, met)?,
+        Finds::Multipliers => CompactSearch::new(alloc, system, cells, &flags, met)?,
+    };
     let out = Vec::from_elem(alloc, false, members.len()).ok()?;
     Some(KeptSearch {
         search,

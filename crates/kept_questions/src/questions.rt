@@ -9,7 +9,7 @@ ghost use Rattle.kept_questions.specs.KeptAnswers.{IsKeptStop};
 ghost use Rattle.kept_questions.specs.declared.kept_answer.KeptAnswer.TheVariants as kept_answer;
 
 use crate::kept_answer::KeptAnswer;
-use crate::kept_search::{KeptSearch, kept_search};
+use crate::kept_search::{Finds, KeptSearch, kept_search};
 use crate::reach_check::check_reach;
 use crate::stop_check::check_stop;
 use compact_search::Found;
@@ -21,13 +21,15 @@ use worlds::Pattern;
 // The most exchanges of a question.
 const MOST_STEPS: u32 = 10_000;
 
-/// Questions about the hidden cells of a system, asked of a table that is kept from one to the next.
+/// Questions about the hidden cells of a system, asked of tables that are kept from one to the next.
 #[derive(Drop)]
 pub struct KeptQuestions {
     // The number of each cell's component in the hidden set for which this was made, none for a shown cell.
     of: Vec<Option<u32>>,
-    // By the number of a component the search over it, once a question was asked about one of its cells.
-    searches: Vec<Option<KeptSearch>>,
+    // By the number of a component the search for worlds over it, once a question was asked about one of its cells.
+    worlds: Vec<Option<KeptSearch>>,
+    // The same of the search that has multipliers as well, once the one for worlds found none.
+    multipliers: Vec<Option<KeptSearch>>,
 }
 
 impl KeptQuestions {
@@ -40,7 +42,8 @@ impl KeptQuestions {
             Some(questions) => questions,
             None => KeptQuestions {
                 of: Vec::new(alloc),
-                searches: Vec::new(alloc),
+                worlds: Vec::new(alloc),
+                multipliers: Vec::new(alloc),
             },
         }
     }
@@ -54,10 +57,12 @@ impl KeptQuestions {
     /// ended early, a number may leave 128 bits or memory be wanting. No table is of use to another system.
     ///
     /// The first question about a component makes its table, and each later one goes on with its equations, from the
-    /// truths; cells that the pattern doesn't hide are left out. The check of a world goes once through its moves and the
-    /// parts of all relations. That of multipliers makes the components of the pattern twice, goes once through the lists
-    /// of the moves for each cell of the asked cell's component and once for each time that one of its relations counts
-    /// one, and then once through the parts of the relations that have a multiplier and through all cells.
+    /// truths; cells that the pattern doesn't hide are left out. A table for worlds alone, which has no slacks, is asked
+    /// first; where it finds none, one with slacks is asked, which has multipliers as well. The check of a world goes once
+    /// through its moves and the parts of all relations. That of multipliers makes the components of the pattern twice,
+    /// goes once through the lists of the moves for each cell of the asked cell's component and once for each time that
+    /// one of its relations counts one, and then once through the parts of the relations that have a multiplier and
+    /// through all cells.
     ///
     /// The question is that of the feasibility interval in Hundepool et al., Statistical Disclosure Control, chapter on
     /// magnitude tables; that an answer stops is shown by linear duality. The order of the questions' tables is own.
@@ -90,37 +95,42 @@ impl KeptQuestions {
         }
     }
 
-    // What the search over the asked cell's component finds, unchecked.
+    // What the searches over the asked cell's component find, unchecked: a world by the one for worlds, or else what the
+    // other gives.
     fn find(&mut self, alloc: Global, pattern: &Pattern<'_>, question: Question) -> Option<Found> {
         let number = (*self.of.get(question.cell as usize)?)?;
-        let mut kept = self.take(alloc, pattern, question.cell, number)?;
-        kept.fit(alloc, pattern.hidden.flags.as_slice())?;
-        let found = kept.search.ask(
-            alloc,
-            question.cell,
-            question.side,
-            question.target,
-            MOST_STEPS,
-        );
-        let slot = self.searches.get_mut(number as usize)?;
-        *slot = Some(kept);
-        found
-    }
-
-    // The search over the component with a number, which is that of a cell. It has to be put back.
-    fn take(
-        &mut self,
-        alloc: Global,
-        pattern: &Pattern<'_>,
-        cell: u32,
-        number: u32,
-    ) -> Option<KeptSearch> {
-        let slot = self.searches.get_mut(number as usize)?;
-        if let Some(kept) = slot.take() {
-            return Some(kept);
+        let slot = self.worlds.get_mut(number as usize)?;
+        if let Some(found) = find_by(alloc, pattern, question, &self.of, Finds::Worlds, slot) {
+            return Some(found);
         }
-        search_over(alloc, pattern, &self.of, cell)
+        let slot = self.multipliers.get_mut(number as usize)?;
+        find_by(alloc, pattern, question, &self.of, Finds::Multipliers, slot)
     }
+}
+
+// What a search over the asked cell's component finds, by the numbers of all cells' components.
+fn find_by(
+    alloc: Global,
+    pattern: &Pattern<'_>,
+    question: Question,
+    of: &[Option<u32>],
+    finds: Finds,
+    slot: &mut Option<KeptSearch>,
+) -> Option<Found> {
+    let mut kept = match slot.take() {
+        Some(kept) => kept,
+        None => search_over(alloc, pattern, of, question.cell, finds)?,
+    };
+    kept.fit(alloc, pattern.hidden.flags.as_slice())?;
+    let found = kept.search.ask(
+        alloc,
+        question.cell,
+        question.side,
+        question.target,
+        MOST_STEPS,
+    );
+    *slot = Some(kept);
+    found
 }
 
 // Questions that none has been asked of yet; none where memory is wanting or there isn't a flag for each cell.
@@ -129,13 +139,16 @@ fn questions_of(alloc: Global, system: &System, hidden: &Hidden) -> Option<KeptQ
         return None;
     }
     let grouping = components(alloc, system, hidden).ok()?;
-    let mut searches = Vec::new(alloc);
+    let mut worlds = Vec::new(alloc);
+    let mut multipliers = Vec::new(alloc);
     for _component in 0..grouping.sizes.as_slice().len() {
-        searches.push(None).ok()?;
+        worlds.push(None).ok()?;
+        multipliers.push(None).ok()?;
     }
     Some(KeptQuestions {
         of: grouping.of.into_vec(),
-        searches,
+        worlds,
+        multipliers,
     })
 }
 
@@ -145,9 +158,10 @@ fn search_over(
     pattern: &Pattern<'_>,
     of: &[Option<u32>],
     cell: u32,
+    finds: Finds,
 ) -> Option<KeptSearch> {
     let system = pattern.system;
     let members = members_of(alloc, of, cell, system.cells).ok()?;
     let met = met_by(alloc, system.relations.as_slice(), of, cell).ok()?;
-    kept_search(alloc, system, pattern.cells, members, &met)
+    kept_search(alloc, system, pattern.cells, members, &met, finds)
 }

@@ -166,6 +166,44 @@ fn ends_of_two_by_two(rt: HostRuntime) -> Result<(), Fail> {
     Ok(())
 }
 
+// A search for worlds alone over a small system.
+fn world_search_of(alloc: Global, small: &Small) -> Option<CompactSearch> {
+    CompactSearch::for_worlds(
+        alloc,
+        &small.system,
+        &small.cells,
+        small.hidden.flags.as_slice(),
+        &small.relations,
+    )
+}
+
+#[test]
+fn worlds_alone_of_two_by_two(rt: HostRuntime) -> Result<(), Fail> {
+    let alloc = rt.alloc();
+    let truths = [140, 50, 90, 70, 20, 50, 70, 30, 40];
+    let Some(small) = make_small(alloc, &TWO_BY_TWO, &truths, &[4, 5, 7, 8])? else {
+        return Ok(());
+    };
+    let Some(mut search) = world_search_of(alloc, &small) else {
+        assert!(rt; false);
+        return Ok(());
+    };
+    let wanted = [
+        (4, Side::Above, 30, right(true, 30)),
+        (4, Side::Above, 31, None),
+        (4, Side::Below, 20, right(true, 20)),
+        (5, Side::Below, 31, None),
+        (7, Side::Below, 7, right(true, 7)),
+        (8, Side::Above, FAR, None),
+    ];
+    for (cell, side, target, answer) in &wanted {
+        let asked = (*cell, *side);
+        let got = asked_of(alloc, &mut search, &small, &small.hidden, asked, *target);
+        assert_eq!(rt; got, *answer);
+    }
+    Ok(())
+}
+
 #[test]
 fn eight_cells_with_one_left_out(rt: HostRuntime) -> Result<(), Fail> {
     let alloc = rt.alloc();
