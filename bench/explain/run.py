@@ -35,8 +35,6 @@ import mistakes  # noqa: E402
 
 EXPLAIN = os.path.join(TOP, "explain")
 JOBS = os.path.join(HERE, "jobs")
-# Of the examples that bench/damage damages the first five are explained; explaining damaged files of contributors isn't tried.
-EXPLAINED = 5
 # What is done to each job that can't be protected where no lines are printed to be saved: these lines of its a priori file go.
 DELETED = {"01": [2], "02": [1, 2], "03": [2], "04": [1], "05": [2], "06": [1]}
 HEADS = ("refused: ", "cannot protect ", "not accepted: ", "not guarded: ", "undecided: ", "no rounding")
@@ -296,8 +294,15 @@ class Damaged:
     def lines_of(self, name):
         return self.files[name].split(b"\n")
 
+    def opened(self, command, ending):
+        """The file that the job opens by a command, or else the first with the ending."""
+        job = self.files.get(self.words[1], b"")
+        found = re.search(rb'<%s>[ \t]*"([^"]*)"' % command, job)
+        name = found[1].decode("ascii", "replace") if found else ""
+        return name if name in self.files else next(it for it in sorted(self.files) if it.endswith(ending))
+
     def micro(self):
-        return next(it for it in self.files if it.endswith(".asc"))
+        return self.opened(b"OPENMICRODATA", ".asc")
 
     def field(self, text, line):
         """The variable, its bytes and the text there, read anew from the files."""
@@ -308,7 +313,7 @@ class Damaged:
         raw = self.lines_of(self.micro())[line - 1][first - 1:last]
         printable = raw.decode("ascii", "replace").isprintable() and raw.isascii()
         self.wants(not printable or raw.decode() == found[4], "other bytes are there: %r" % raw)
-        rda = next(it for it in self.files if it.endswith(".rda"))
+        rda = self.opened(b"OPENMETADATA", ".rda")
         place = re.compile(rb"[ \t]*\"?%s\"?[ \t]+0*%d[ \t]+0*%d\b" % (re.escape(found[1].encode()), first, last - first + 1))
         self.wants(any(place.match(it) for it in self.lines_of(rda)), "the variable isn't at these bytes")
 
@@ -329,12 +334,12 @@ class Damaged:
 def damages(tally, program, count):
     it, draw, statuses = damage(), random.Random(11), collections.Counter()
     whole = {}
-    for example, job, _ in it["JOBS"][:EXPLAINED]:
+    for example, job, _ in it["JOBS"]:
         with Room(os.path.join(TOP, "examples", example)):
             ask(program, ["run", job])
             whole[example] = {name: data for name, data in it["contents"](".").items() if not name.endswith((".txt", ".expected", ".md", ".gitignore"))}
     for number in range(count):
-        example, job, _ = draw.choice(it["JOBS"][:EXPLAINED])
+        example, job, _ = draw.choice(it["JOBS"])
         files = dict(whole[example])
         name, other = draw.choice(sorted(files)), draw.choice(sorted(files))
         files[name] = it["damaged"](draw, files[name], files[other])
