@@ -262,6 +262,9 @@ cells lists the cells of a job, with true values: for the office alone. It works
                             cells turnover.job
   cells JOB --released    lists the same with what the release made of each cell, once argus check accepts it
                             cells turnover.job --released
+  cells JOB --released --intervals FILE
+                          adds both ends of each hidden cell, from the file that argus intervals JOB FILE wrote
+                            cells turnover.job --released --intervals ranges.csv
   cells JOB --relations   lists which cell is the sum of which, by the numbers that certificates have
                             cells turnover.job --relations
   cells --help            prints this page

@@ -1,12 +1,18 @@
 -- Which words ask for which listing.
-use Rattle.std.proofs.Common.{◌≡◌, ℕ, Bool, true, false, List, [], ◌∷◌, None, Some, refl, bytes_eq, if◌then◌else◌}
+use Rattle.std.proofs.Common.{◌≡◌, ℕ, ◌==◌, Bool, true, false, List, [], ◌∷◌, length, get_or, None, Some, Result, Err, ◌≢◌, refl, ap, sym, ◌∙◌, bytes_eq, if◌then◌else◌, arith}
+use Rattle.std.proofs.lemmas.Bool.Decides.{nat_tests}
 use Rattle.std.specs.Prelude.{codes}
 use Rattle.std.proofs.lemmas.Slice.Eq.{bytes_eq-Decides}
-use Rattle.cell_listing.specs.Asked.{asked_stop, named_with, release_named, relations_named}
+use Rattle.cell_listing.specs.Asked.{asked_stop, intervals_named, intervals_stop, is_asking, named_with, release_named, relations_named}
 use Rattle.cell_listing.specs.Calls.{job_named}
 use Rattle.cell_listing.specs.declared.asked.AskStop.TheVariants as asked
 use Rattle.cell_listing.specs.declared.calls.ListStop.{ListStop}
+use Rattle.cell_listing.specs.declared.asked.AskStop.{AskStop}
 use Rattle.cell_listing.specs.declared.calls.ListStop.TheVariants as list
+use Rattle.cell_listing.specs.declared.interval_stop.IntervalStop.{IntervalStop}
+use Rattle.cell_listing.specs.declared.interval_stop.IntervalStop.TheVariants as interval
+use Rattle.std.specs.Prelude.{Vec}
+use Rattle.std.specs.declared.alloc.Global.{Global}
 
 -- words with an option name no job alone
 pub alone_or_with : (option : List ℕ) (words : List (List ℕ)) (name : List ℕ) → named_with option words ≡ Some name → job_named words ≡ None
@@ -40,3 +46,54 @@ one_option ((b ∷ rest) ∷ word ∷ other ∷ words) name is = refl
 pub usage_alone : (stop : ListStop) → asked_stop stop ≡ asked.Usage → stop ≡ list.Usage
 usage_alone list.Usage is = refl
 usage_alone (list.Inputs input) is = absurd cc
+
+-- words that ask for intervals name no job alone
+pub no_job_by_four : (words : List (List ℕ)) (names : List ℕ × List ℕ) → intervals_named words ≡ Some names → job_named words ≡ None
+no_job_by_four [] names is = refl
+no_job_by_four ([] ∷ words) names is = refl
+no_job_by_four ((b ∷ rest) ∷ []) names is = absurd cc
+no_job_by_four ((b ∷ rest) ∷ word ∷ words) names is = refl
+
+-- nor with one option
+pub no_option_by_four : (option : List ℕ) (words : List (List ℕ)) (names : List ℕ × List ℕ) → intervals_named words ≡ Some names → named_with option words ≡ None
+no_option_by_four option [] names is = refl
+no_option_by_four option ([] ∷ words) names is = refl
+no_option_by_four option ((b ∷ rest) ∷ []) names is = refl
+no_option_by_four option ((b ∷ rest) ∷ word ∷ []) names is = absurd cc
+no_option_by_four option ((b ∷ rest) ∷ word ∷ other ∷ words) names is = refl
+
+-- four words are those at their places
+pub four_words : (words : List (List ℕ)) (name first second file p q r s : List ℕ) → length words ≡ 4 → name ≡ get_or words 0 p → first ≡ get_or words 1 q → second ≡ get_or words 2 r → file ≡ get_or words 3 s → words ≡ name ∷ first ∷ second ∷ file ∷ []
+four_words [] name first second file p q r s size in0 in1 in2 in3 = absurd (omega (arith, size))
+four_words (a ∷ []) name first second file p q r s size in0 in1 in2 in3 = absurd (omega (arith, size))
+four_words (a ∷ b ∷ []) name first second file p q r s size in0 in1 in2 in3 = absurd (omega (arith, size))
+four_words (a ∷ b ∷ c ∷ []) name first second file p q r s size in0 in1 in2 in3 = absurd (omega (arith, size))
+four_words (a ∷ b ∷ c ∷ d ∷ []) name first second file p q r s size in0 in1 in2 in3 =
+    let one : name ≡ a = in0 in
+    let two : first ≡ b = in1 in
+    let three : second ≡ c = in2 in
+    let four : file ≡ d = in3 in
+    cc
+four_words (a ∷ b ∷ c ∷ d ∷ e ∷ words) name first second file p q r s size in0 in1 in2 in3 = absurd (omega (arith, size))
+
+-- four words name what they ask for
+pub four_asked : (name first second file : List ℕ) → (if is_asking name first second file then Some (name, file) else None) ≡ intervals_named (name ∷ first ∷ second ∷ file ∷ [])
+four_asked [] first second file = refl
+four_asked (b ∷ name) first second [] = let test : (length (b ∷ name) == 0) ≡ false = grind (arith, nat_tests) in rw test refl
+four_asked (b ∷ name) first second (d ∷ file) =
+    let test : (length (b ∷ name) == 0) ≡ false = grind (arith, nat_tests) in
+    let other : (length (d ∷ file) == 0) ≡ false = grind (arith, nat_tests) in
+    rw (test, other) refl
+
+-- four words that ask for intervals, and four that don't
+pub named_by_four : (words : List (List ℕ)) (name first second file p q r s : List ℕ) (test : Bool) → length words ≡ 4 → name ≡ get_or words 0 p → first ≡ get_or words 1 q → second ≡ get_or words 2 r → file ≡ get_or words 3 s
+    → is_asking name first second file ≡ test → (if test then Some (name, file) else None) ≡ intervals_named words
+named_by_four words name first second file p q r s test size in0 in1 in2 in3 is =
+    ap (λ (t : Bool). if t then Some (name, file) else None) (sym is) ∙ four_asked name first second file
+    ∙ ap intervals_named (sym (four_words words name first second file p q r s size in0 in1 in2 in3))
+
+-- a stop of a listing with intervals is no usage
+pub no_interval_usage : (stop : IntervalStop) → ◌≢◌ {A = Result (Vec ℕ Global) AskStop} (Err (intervals_stop stop)) (Err asked.Usage)
+no_interval_usage (interval.Release why) = λ is. absurd cc
+no_interval_usage (interval.File why) = λ is. absurd cc
+no_interval_usage interval.Memory = λ is. absurd cc

@@ -17,3 +17,12 @@ pub mod ReleaseReads
 pub mod Asking
 pub mod RelationVariables
 pub mod RelationLists
+pub mod Numerals
+pub mod Marks
+pub mod IntervalEnds
+pub mod IntervalLines
+pub mod IntervalFileLaws
+pub mod Walking
+pub mod HiddenNumbers
+pub mod IntervalReads
+pub mod IntervalStops

@@ -44,22 +44,28 @@ tables_show released read (cells.Suppressed flags) got are =
     suppressed_shown released [] it.0 it.1 hides
 tables_show released read (cells.Rounded amounts) got are = rounded_shown released read amounts got.is (ap (λ (c : Certificate). rounds_cells c.method) (sym got.is.certificate) ∙ are.0) are.1
 
+pub listing_by : (released : ReleasedFiles) (read : ReadRelease) (made : ReleasedCells) (text : List ℕ) → IsReadyRelease read → AreReleasedIn read made
+    → text ≡ released_text read.job.described read.job.book.trees (outcome_at read.certificate read.extra (amounts_in made)) (told_cells read.job) → IsAcceptedAs released read → (listing : IsListingOf released text) × (listing.amounts ≡ amounts_in made)
+unfolding released_listing
+listing_by released read made text ready are is got =
+    let inputs = released.settled.inputs in
+    let amounts : List ℤ = amounts_in made in (
+      record {
+        accepted = got.accepted;
+        amounts = amounts;
+        text_is =
+            is ∙ released_alike read.certificate read.extra amounts read.job released.settled ready.job got.is.settled
+            ∙ ap₂ (λ (c : Certificate) (extra : Option Extra). released_text inputs.described inputs.records.trees (outcome_at c extra amounts) (listed_cells released.settled)) got.is.certificate got.is.extra;
+        counts = listings_count_as_reports released.settled read.job ready.job got.is.settled;
+        hidden = hidden_exactly released amounts got.accepted (apart released read ready got.is released.extra got.is.extra got.accepted);
+        tables = tables_show released read made got are;
+      },
+      refl,
+    )
+
 pub is_listing : (released : ReleasedFiles) (read : ReadRelease) (made : ReleasedCells) (text : List ℕ) → IsReadyRelease read → AreReleasedIn read made
     → text ≡ released_text read.job.described read.job.book.trees (outcome_at read.certificate read.extra (amounts_in made)) (told_cells read.job) → IsAcceptedAs released read → IsListingOf released text
-unfolding released_listing
-is_listing released read made text ready are is got =
-    let inputs = released.settled.inputs in
-    let amounts : List ℤ = amounts_in made in
-    record {
-      accepted = got.accepted;
-      amounts = amounts;
-      text_is =
-          is ∙ released_alike read.certificate read.extra amounts read.job released.settled ready.job got.is.settled
-          ∙ ap₂ (λ (c : Certificate) (extra : Option Extra). released_text inputs.described inputs.records.trees (outcome_at c extra amounts) (listed_cells released.settled)) got.is.certificate got.is.extra;
-      counts = listings_count_as_reports released.settled read.job ready.job got.is.settled;
-      hidden = hidden_exactly released amounts got.accepted (apart released read ready got.is released.extra got.is.extra got.accepted);
-      tables = tables_show released read made got are;
-    }
+is_listing released read made text ready are is got = (listing_by released read made text ready are is got).0
 
 -- the listing of what a check accepts answers
 pub listing_answers : (outcome : Result ReleasedFiles Fault) (read : ReadRelease) (text : List ℕ) → ((released : ReleasedFiles) → IsAcceptedAs released read → IsListingOf released text) → IsReadReleaseAnswer outcome (Ok read) → IsOkAnd outcome (λ released. IsListingOf released text)

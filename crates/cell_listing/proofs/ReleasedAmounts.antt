@@ -1,5 +1,5 @@
 -- Where a release rounds, there is an amount of each cell.
-use Rattle.std.proofs.Common.{◌≡◌, ◌<◌, ℕ, length, arith}
+use Rattle.std.proofs.Common.{◌<◌, ℕ, length, arith}
 use Rattle.linked_tables.specs.BookCells.{cells as cells_in}
 use Rattle.job_check.specs.declared.reading.ReadRelease.{ReadRelease}
 use Rattle.cell_listing.specs.ReleasedCells.{AreReleasedIn, HasAmount}

@@ -1,17 +1,21 @@
 -- What words ask the listing for, and what is answered (own).
-use Rattle.std.specs.Prelude.{◌≡◌, ℕ, List, [], ◌∷◌, Option, None, Some, codes, if◌then◌else◌, Result, Vec}
+use Rattle.std.specs.Prelude.{◌≡◌, ℕ, ◌==◌, List, [], ◌∷◌, length, Option, None, Some, codes, if◌then◌else◌, Bool, not, ◌&&◌, Result, Vec}
 use Rattle.std.specs.Str.{bytes_eq}
 use Rattle.std.specs.declared.alloc.Global.{Global}
 use Rattle.sdc_base.specs.Steps.{map_fault}
 use Rattle.office_io.specs.Shelves.{ShelfState}
 use Rattle.job_inputs.specs.declared.stop.InputStop.{InputStop}
+use Rattle.job_inputs.specs.declared.stop.InputStop.TheVariants as input
 use Rattle.job_check.specs.declared.stop.CheckStop.{CheckStop}
 use Rattle.job_check.specs.declared.stop.CheckStop.TheVariants as check
+use Rattle.cell_listing.specs.IntervalRuns.{IsIntervalsRun}
 use Rattle.cell_listing.specs.Runs.{IsListingRun, IsRelationsRun, IsReleasedRun}
 use Rattle.cell_listing.specs.declared.asked.AskStop.{AskStop}
 use Rattle.cell_listing.specs.declared.asked.AskStop.TheVariants as asked
 use Rattle.cell_listing.specs.declared.calls.ListStop.{ListStop}
 use Rattle.cell_listing.specs.declared.calls.ListStop.TheVariants as list
+use Rattle.cell_listing.specs.declared.interval_stop.IntervalStop.{IntervalStop}
+use Rattle.cell_listing.specs.declared.interval_stop.IntervalStop.TheVariants as interval
 
 -- the name of a job, of one byte or more, where this word stands behind it, and nothing else
 abbrev pub named_with : List ℕ → List (List ℕ) → Option (List ℕ)
@@ -26,10 +30,28 @@ release_named words = named_with (codes "--released") words
 abbrev pub relations_named : List (List ℕ) → Option (List ℕ)
 relations_named words = named_with (codes "--relations") words
 
+-- the names of a job and of a file, each of one byte or more, where `--released --intervals` stands between them
+abbrev pub intervals_named : List (List ℕ) → Option (List ℕ × List ℕ)
+intervals_named ((b ∷ name) ∷ first ∷ second ∷ (d ∷ file) ∷ []) =
+    if bytes_eq first (codes "--released") && bytes_eq second (codes "--intervals") then Some (b ∷ name, d ∷ file) else None
+intervals_named words = None
+
+-- two names of one byte or more have `--released --intervals` between them
+abbrev pub is_asking : List ℕ → List ℕ → List ℕ → List ℕ → Bool
+is_asking name first second file =
+    not (length name == 0) && (not (length file == 0)
+    && (bytes_eq first (codes "--released") && bytes_eq second (codes "--intervals")))
+
 -- why there is no listing of a job, as an answer to words
 abbrev pub asked_stop : ListStop → AskStop
 asked_stop list.Usage = asked.Usage
 asked_stop (list.Inputs input) = asked.Stopped (check.Inputs input)
+
+-- why there is no listing of a release with its intervals, as an answer to words
+abbrev pub intervals_stop : IntervalStop → AskStop
+intervals_stop (interval.Release why) = asked.Stopped why
+intervals_stop (interval.File why) = asked.Intervals why
+intervals_stop interval.Memory = asked.Stopped (check.Inputs input.Memory)
 
 -- the answer is that of a listing of the job of this name
 pub record IsCellsAnswer (name : List ℕ) (answer : Result (Vec ℕ Global) AskStop) (old new : ShelfState) : Type 0 where
@@ -50,3 +72,10 @@ pub record IsReleasesAnswer (name : List ℕ) (answer : Result (Vec ℕ Global) 
   pub listing : Result (Vec ℕ Global) CheckStop
   pub same : answer ≡ map_fault asked.Stopped listing
   pub run : IsReleasedRun name listing old new
+
+-- the answer is that of a listing of the job with its release and this interval file
+pub record IsIntervalsAnswer (name file : List ℕ) (answer : Result (Vec ℕ Global) AskStop) (old new : ShelfState)
+    : Type 0 where
+  pub listing : Result (Vec ℕ Global) IntervalStop
+  pub same : answer ≡ map_fault intervals_stop listing
+  pub run : IsIntervalsRun name file listing old new

@@ -1,5 +1,5 @@
 -- What a certificate says of cells, by a flag for each (own).
-use Rattle.std.specs.Prelude.{◌≡◌, ℕ, Bool, false, List, [], Option, Some, fold, replicate, if◌then◌else◌}
+use Rattle.std.specs.Prelude.{◌≡◌, ℕ, ◌||◌, Bool, false, List, [], Option, Some, fold, replicate, if◌then◌else◌}
 use Rattle.sdc_base.specs.HiddenSets.{is_hidden}
 use Rattle.sdc_base.specs.Kinds.{is_primary}
 use Rattle.sdc_base.specs.Trails.{corners_of}
@@ -32,3 +32,7 @@ outcome_in flags number kind =
     then outcome.Hidden (origin_by (is_primary kind) (is_hidden flags.corners number) (is_hidden flags.subjects number))
     else if is_hidden flags.extra number then outcome.Hidden (Some origin.Extra)
     else outcome.Shown
+
+-- flags say that the cell with this number is hidden, by the certificate or beside it
+abbrev pub is_flagged : HiddenCells → ℕ → Bool
+is_flagged flags number = is_hidden flags.hidden number || is_hidden flags.extra number

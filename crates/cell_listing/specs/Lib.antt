@@ -12,5 +12,8 @@ pub mod Flags
 pub mod ReleasedListings
 pub mod ReleasedCells
 pub mod Releases
+pub mod IntervalFiles
+pub mod IntervalListings
 pub mod Runs
+pub mod IntervalRuns
 pub mod Asked

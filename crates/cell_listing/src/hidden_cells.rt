@@ -1,9 +1,10 @@
-ghost use Rattle.std.specs.Prelude.{◌≡◌, [], fold, IfOk};
+ghost use Rattle.std.specs.Prelude.{◌≡◌, ◌++◌, ◌∷◌, [], filter, fold, if◌then◌else◌, IfOk, OnOk};
+ghost use Rattle.std.specs.List.{range_with_len};
 ghost use Rattle.sdc_base.specs.HiddenSets.{is_hidden};
 ghost use Rattle.sdc_base.specs.Kinds.{is_primary};
 ghost use Rattle.sdc_base.specs.Trails.{corners_of};
 ghost use Rattle.repair.specs.HidingOrder.{hide, hide_subjects};
-ghost use Rattle.cell_listing.specs.Flags.{AreHiddenCells, flags_of, outcome_in};
+ghost use Rattle.cell_listing.specs.Flags.{AreHiddenCells, flags_of, is_flagged, outcome_in};
 ghost use Rattle.cell_listing.specs.Outcomes as spec;
 
 use crate::outcome::{Origin, Outcome};
@@ -115,6 +116,32 @@ pub(crate) fn hidden_or_shown(cells: &HiddenCells, number: u32, kind: Kind) -> O
     } else {
         Outcome::Shown
     }
+}
+
+/// The numbers of the hidden cells among so many, ascending.
+pub(crate) fn hidden_numbers(
+    alloc: Global,
+    count: u32,
+    cells: &HiddenCells,
+) -> Result<Items<u32>, Memory>
+    ensures { IfOk result (λ numbers. numbers ≡ filter (is_flagged cells.now) (range_with_len 0 count)) }
+{
+    let mut numbers = Items::empty(alloc);
+    'each: for number in 0..count {
+        add_hidden(&mut numbers, cells, number)?;
+    }
+    Ok(numbers)
+}
+
+// Adds the number of a cell, where it is hidden.
+fn add_hidden(numbers: &mut Items<u32>, cells: &HiddenCells, number: u32) -> Result<(), Memory>
+    ensures { OnOk result (numbers.new ≡
+        (if is_flagged cells.now number then numbers.old ++ number ∷ [] else numbers.old)) }
+{
+    if is_marked(cells.hidden.as_slice(), number) || is_marked(cells.extra.as_slice(), number) {
+        numbers.push(number)?;
+    }
+    Ok(())
 }
 
 // By what a cell came to be hidden, where something says so.

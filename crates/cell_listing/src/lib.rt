@@ -5,9 +5,15 @@
 mod amounts;
 mod asked;
 mod calls;
+mod cell_range;
 mod csv_line;
 mod fields;
 mod hidden_cells;
+mod interval_ends;
+mod interval_file;
+mod interval_listing;
+mod interval_reading;
+mod interval_stop;
 mod laws;
 mod listed_relations;
 mod listing;
@@ -24,6 +30,8 @@ mod words;
 
 pub use asked::{AskStop, list_asked};
 pub use calls::{ListStop, list_cells};
+pub use interval_reading::list_intervals;
+pub use interval_stop::{IntervalFault, IntervalStop};
 pub use laws::{listings_are_of_releases, prices_are_costs, reasons_are_true};
 pub use listing::listing_for;
 pub use reading::list_job;

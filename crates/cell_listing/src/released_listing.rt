@@ -62,8 +62,8 @@ fn write_names(
     write_line(writer, names.as_slice())
 }
 
-// The columns of what a release made of a cell.
-fn outcome_names(alloc: Global) -> Result<Items<Text>, Memory>
+/// The columns of what a release made of a cell.
+pub(crate) fn outcome_names(alloc: Global) -> Result<Items<Text>, Memory>
     ensures { IfOk result (λ names. names ≡ spec.outcome_names) }
 {
     let mut names = Items::empty(alloc);
@@ -92,8 +92,8 @@ fn write_cells(
     Ok(())
 }
 
-// All that stands in the line of the cell with this number.
-fn released_fields(
+/// All that stands in the line of the cell with this number.
+pub(crate) fn released_fields(
     alloc: Global,
     read: &ReadRelease,
     cells: &ReleasedCells,

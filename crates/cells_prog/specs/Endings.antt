@@ -4,12 +4,15 @@ use Rattle.cell_listing.specs.declared.asked.AskStop.{AskStop}
 use Rattle.cell_listing.specs.declared.asked.AskStop.TheVariants as stop
 use Rattle.job_check.specs.declared.stop.CheckStop.{CheckStop}
 use Rattle.job_check.specs.declared.stop.CheckStop.TheVariants as check
+use Rattle.job_inputs.specs.declared.faults.Fault.TheVariants as fault
 use Rattle.job_inputs.specs.declared.file_ref.FileRef.TheVariants as file
 use Rattle.job_inputs.specs.declared.stop.InputStop.{InputStop}
 use Rattle.job_inputs.specs.declared.stop.InputStop.TheVariants as input
 use Rattle.job_run.specs.ReportText.{status_of}
 use Rattle.job_run.specs.declared.report.Report.{Report}
 use Rattle.job_run.specs.declared.report.Report.TheVariants as report
+use Rattle.cell_listing.specs.declared.interval_stop.IntervalFault.{IntervalFault}
+use Rattle.cell_listing.specs.declared.interval_stop.IntervalFault.TheVariants as interval
 use Rattle.cells_prog.specs.Outputs.{OutputState, HasRefused, HasWritten}
 
 -- what stopped the inputs of a job, as the report of its run has it
@@ -24,10 +27,19 @@ checked_report (check.Inputs input) = report_of input
 checked_report (check.NotAccepted why) = report.NotAccepted why
 checked_report (check.NotGuarded why) = report.NotGuarded why
 
--- why there is no listing, as a report has it; words that ask for none are a usage
-abbrev pub report_for : AskStop → Report
-report_for stop.Usage = report.Usage
-report_for (stop.Stopped why) = checked_report why
+-- the status where an interval file isn't taken: that of argus where such a file, as one that was put, is refused or can't be
+-- read; a line that isn't as it must be refuses it
+abbrev pub interval_status : IntervalFault → ℕ
+interval_status interval.Absent = status_of (report.Refused (fault.Absent file.Out))
+interval_status interval.TooLong = status_of (report.Refused (fault.TooLong file.Out))
+interval_status interval.Failed = status_of (report.ReadFault file.Out)
+interval_status (interval.Line number) = 2
+
+-- the status where there is no listing: that of a report, which words that ask for none have as a usage
+abbrev pub status_for : AskStop → ℕ
+status_for stop.Usage = status_of report.Usage
+status_for (stop.Stopped why) = status_of (checked_report why)
+status_for (stop.Intervals why) = interval_status why
 
 -- How the end of a listing that was made is: it was written, whole and once, and the status is 0; or the output refused
 -- to take it whole, and the status is that of a fault in writing.

@@ -3,18 +3,19 @@ ghost use Rattle.std.specs.Process.{exit_status};
 ghost use Rattle.cell_listing.specs.declared.asked.AskStop.{AskStop as AnyStop};
 ghost use Rattle.job_run.specs.ReportText.{status_of};
 ghost use Rattle.job_run.specs.declared.report.Report.TheVariants as report;
-ghost use Rattle.cells_prog.specs.Endings.{IsWrittenBy, report_for};
+ghost use Rattle.cells_prog.specs.Endings.{IsWrittenBy, interval_status, status_for};
 ghost use Rattle.cells_prog.specs.Endings as spec;
 
 use crate::output::Output;
-use cell_listing::AskStop;
+use cell_listing::{AskStop, IntervalFault};
 use job_check::CheckStop;
-use job_inputs::InputStop;
+use job_inputs::{Fault, InputStop};
 use job_run::{FileRef, Report, report_text};
 use std::alloc::Global;
 use std::process::ExitCode;
 
-const USAGE: &[u8] = b"usage: cells JOB | cells JOB --released | cells JOB --relations\n";
+const USAGE: &[u8] =
+    b"usage: cells JOB | cells JOB --released | cells JOB --relations | cells JOB --released --intervals FILE\n";
 
 /// Writes a listing to the output, or the usage line to standard output, or says on standard error why there is no
 /// listing, and gives the status with which the program ends: 0 for a listing, and else argus's status for what went
@@ -28,7 +29,7 @@ pub fn ended_by<R: Print + Eprint, O: Output>(
     alloc: Global,
     answer: Result<Vec<u8>, AskStop>,
 ) -> ExitCode
-    ensures stopped { (stop : AnyStop) → answer ≡ Err stop → exit_status result ≡ status_of (report_for stop) }
+    ensures stopped { (stop : AnyStop) → answer ≡ Err stop → exit_status result ≡ status_for stop }
     ensures none_written { (stop : AnyStop) → answer ≡ Err stop → O.state output.new ≡ O.state output.old }
     ensures written { IfOk answer (λ bytes. IsWrittenBy bytes.items (exit_status result) (O.state output.old)
         (O.state output.new)) }
@@ -58,7 +59,7 @@ fn written_by<R: Eprint, O: Output>(rt: &R, output: &mut O, alloc: Global, bytes
 
 // Says why there is no listing.
 fn stopped_by<R: Print + Eprint>(rt: &R, alloc: Global, stop: AskStop) -> ExitCode
-    ensures { exit_status result ≡ status_of (report_for stop) }
+    ensures { exit_status result ≡ status_for stop }
 {
     match stop {
         AskStop::Usage => {
@@ -66,7 +67,30 @@ fn stopped_by<R: Print + Eprint>(rt: &R, alloc: Global, stop: AskStop) -> ExitCo
             ExitCode::from(Report::Usage.status())
         }
         AskStop::Stopped(check) => exit_code_for(rt, alloc, &checked_report(check)),
+        AskStop::Intervals(fault) => stopped_by_intervals(rt, alloc, fault),
     }
+}
+
+// Says why an interval file isn't taken: in argus's words for a file that was put, or by the number of the line.
+fn stopped_by_intervals<R: Eprint>(rt: &R, alloc: Global, fault: IntervalFault) -> ExitCode
+    ensures { exit_status result ≡ interval_status fault }
+{
+    match fault {
+        IntervalFault::Absent => refused_for(rt, alloc, Fault::Absent(FileRef::Out)),
+        IntervalFault::TooLong => refused_for(rt, alloc, Fault::TooLong(FileRef::Out)),
+        IntervalFault::Failed => exit_code_for(rt, alloc, &Report::ReadFault(FileRef::Out)),
+        IntervalFault::Line(number) => {
+            let _ = eprint!(rt; "refused: intervals line {number}\n");
+            ExitCode::from(2)
+        }
+    }
+}
+
+// Says that a file was refused.
+fn refused_for<R: Eprint>(rt: &R, alloc: Global, fault: Fault) -> ExitCode
+    ensures { exit_status result ≡ status_of (report.Refused fault) }
+{
+    exit_code_for(rt, alloc, &Report::Refused(fault))
 }
 
 // Says a report, in argus's words.

@@ -1,7 +1,7 @@
 use crate::listed_tests::texts_of;
 use apriori::PriorWhy;
 use attackers::ExtraFault;
-use cell_listing::{AskStop, list_asked, list_relations, relations_listing_for};
+use cell_listing::{AskStop, IntervalFault, list_asked, list_relations, relations_listing_for};
 use cert_check::CheckFault;
 use certificate::CertWhy;
 use job_check::CheckStop;
@@ -237,12 +237,15 @@ const NAMING_ALL: &[File] = &[
     (b"p.hst", b"a;c;5\n"),
 ];
 
-// The words that ask for the cells of a job, for those of its release, and for the relations between them.
+// The words that ask for the cells of a job, for those of its release, for the relations between them, and for those of its
+// release with their intervals.
 const CELLS: &[&[u8]] = &[b"r.job"];
 
 const RELEASED: &[&[u8]] = &[b"r.job", b"--released"];
 
 const RELATIONS: &[&[u8]] = &[b"r.job", b"--relations"];
+
+const INTERVALS: &[&[u8]] = &[b"r.job", b"--released", b"--intervals", b"t.int"];
 
 // A shelf with the files, and this in place of what one of them holds, where it is there.
 fn shelf_with(
@@ -308,6 +311,181 @@ fn listings_of_releases(rt: HostRuntime) -> Result<(), Fail> {
     for (files, listing) in &LISTINGS_OF_RELEASES {
         assert!(rt; lists(rt.alloc(), RELEASED, files, listing)?);
     }
+    Ok(())
+}
+
+// A file of intervals, and the lines of the release with the ends of each hidden cell.
+const TWO_WAY_INTERVALS: &[u8] = b"cell,low,high\n4,0,50\n5,20,70\n7,0,50\n8,20,70\n";
+
+const TWO_WAY_WITH_INTERVALS: &[u8] =
+    b"cell,tables,A,B,value,records,largest,second,status,rules,up,down,price,low,high,release,origin,interval_low,interval_high\n0,1,Total,Total,140,13,20,15,free,,0,0,141,0,,shown,,,\n1,1,Total,b1,50,6,10,10,free,,0,0,51,0,,shown,,,\n2,1,Total,b2,90,7,20,15,free,,0,0,91,0,,shown,,,\n3,1,a1,Total,70,6,20,10,free,,0,0,71,0,,shown,,,\n4,1,a1,b1,20,2,10,10,primary,FREQ,6,6,21,0,,hidden,primary,0,50\n5,1,a1,b2,50,4,20,10,free,,0,0,51,0,,hidden,step,20,70\n6,1,a2,Total,70,7,15,15,free,,0,0,71,0,,shown,,,\n7,1,a2,b1,30,4,10,10,free,,0,0,31,0,,hidden,step,0,50\n8,1,a2,b2,40,3,15,15,free,,0,0,41,0,,hidden,step,20,70\n";
+
+// Ends as they stand: fractions, not in lowest terms too, the greatest number, and `open`.
+const LINKED_INTERVALS: &[u8] =
+    b"cell,low,high\n1,1/2,open\n2,0,170141183460469231731687303715884105727\n3,2/4,170141183460469231731687303715884105727/2\n4,0/3,100\n";
+
+const LINKED_WITH_INTERVALS: &[u8] =
+    b"cell,tables,A,B,value,records,largest,second,status,rules,up,down,price,low,high,release,origin,interval_low,interval_high\n0,1 2,Total,Total,80,7,20,15,free,,0,0,81,0,,shown,,,\n1,1,a1,Total,20,2,10,10,primary,FREQ,6,6,21,0,,hidden,primary,1/2,open\n2,1,a2,Total,60,5,20,15,free,,0,0,61,0,,hidden,step,0,170141183460469231731687303715884105727\n3,2,Total,b1,30,2,20,10,primary,FREQ,9,9,31,0,,hidden,primary,2/4,170141183460469231731687303715884105727/2\n4,2,Total,b2,50,5,15,10,free,,0,0,51,0,,hidden,step,0/3,100\n";
+
+const ROUNDED_WITH_INTERVALS: &[u8] =
+    b"cell,tables,A,value,records,largest,second,status,rules,up,down,price,low,high,release,origin,interval_low,interval_high\n0,1,Total,25.5,2,13.0,12.5,free,,0.0,0.0,256,0.0,,30.0,,,\n1,1,a,12.5,1,12.5,0.0,free,,0.0,0.0,126,0.0,,10.0,,,\n2,1,b,13.0,1,13.0,0.0,free,,0.0,0.0,131,0.0,,20.0,,,\n";
+
+// The files of a release, its file of intervals, and the listing.
+const LISTINGS_WITH_INTERVALS: [(&[File], &[u8], &[u8]); 3] = [
+    (TWO_WAY, TWO_WAY_INTERVALS, TWO_WAY_WITH_INTERVALS),
+    (LINKED, LINKED_INTERVALS, LINKED_WITH_INTERVALS),
+    // No cell is hidden.
+    (ROUNDED, b"cell,low,high\n", ROUNDED_WITH_INTERVALS),
+];
+
+// The files and this file of intervals.
+fn held_with(
+    alloc: Global,
+    files: &[File],
+    intervals: &[u8],
+) -> Result<Vec<(Text, Vec<u8>)>, Memory> {
+    let mut held = Vec::new(alloc);
+    for (file, bytes) in files {
+        let holds = Vec::from_slice(alloc, *bytes)?;
+        held.push((Text::from_slice(alloc, file)?, holds))?;
+    }
+    let holds = Vec::from_slice(alloc, intervals)?;
+    held.push((Text::from_slice(alloc, b"t.int")?, holds))?;
+    Ok(held)
+}
+
+// What is said to these words over the files and this file of intervals.
+fn answer_with(
+    alloc: Global,
+    files: &[File],
+    intervals: &[u8],
+) -> Result<Result<Vec<u8>, AskStop>, Memory> {
+    let words = texts_of(alloc, INTERVALS)?;
+    let held = held_with(alloc, files, intervals)?;
+    let mut shelf = MemoryShelf::new(held, Vec::new(alloc), 7);
+    Ok(list_asked(alloc, words.as_slice(), &mut shelf))
+}
+
+#[test]
+fn listings_with_intervals(rt: HostRuntime) -> Result<(), Fail> {
+    for (files, intervals, listing) in &LISTINGS_WITH_INTERVALS {
+        let said = answer_with(rt.alloc(), files, intervals)?;
+        assert!(rt; said.is_ok_and(|bytes| bytes.as_slice() == *listing));
+    }
+    Ok(())
+}
+
+// The hidden cells with a contributors' file are 1 and 2 of the certificate, and 3 beside them.
+#[test]
+fn intervals_of_extra_cells(rt: HostRuntime) -> Result<(), Fail> {
+    let all = answer_with(rt.alloc(), GUARDED, b"cell,low,high\n1,0,1\n2,0,1\n3,0,1\n")?;
+    assert!(rt; all.is_ok());
+    let own = answer_with(rt.alloc(), GUARDED, b"cell,low,high\n1,0,1\n2,0,1\n")?;
+    assert_eq!(rt; own.err(), Some(AskStop::Intervals(IntervalFault::Line(4))));
+    Ok(())
+}
+
+// Files that aren't the intervals of the cells 4, 5, 7 and 8, and the first line that isn't as it must be.
+const NO_INTERVALS: [(&[u8], u64); 34] = [
+    (b"", 1),
+    (b"cell,low,high", 1),
+    (b"cell,low,high\r\n4,0,50\n5,20,70\n7,0,50\n8,20,70\n", 1),
+    (b"cell,low,high,\n4,0,50\n5,20,70\n7,0,50\n8,20,70\n", 1),
+    (b"4,0,50\n5,20,70\n7,0,50\n8,20,70\n", 1),
+    (b"cell,low,high\n", 2),
+    (b"cell,low,high\n4,0,50", 2),
+    (b"cell,low,high\n4,0,50\n5,20,70\n7,0,50\n", 5),
+    (b"cell,low,high\n4,0,50\n5,20,70\n7,0,50\n8,20,70", 5),
+    (
+        b"cell,low,high\n4,0,50\n5,20,70\n7,0,50\n8,20,70\n9,0,1\n",
+        6,
+    ),
+    (b"cell,low,high\n4,0,50\n5,20,70\n7,0,50\n8,20,70\n\n", 6),
+    // Another order, a cell that is shown, and one twice.
+    (b"cell,low,high\n5,20,70\n4,0,50\n7,0,50\n8,20,70\n", 2),
+    (
+        b"cell,low,high\n4,0,50\n5,20,70\n6,0,50\n7,0,50\n8,20,70\n",
+        4,
+    ),
+    (
+        b"cell,low,high\n4,0,50\n4,0,50\n5,20,70\n7,0,50\n8,20,70\n",
+        3,
+    ),
+    // Lines that lack something or have more.
+    (b"cell,low,high\n\n", 2),
+    (b"cell,low,high\n4\n", 2),
+    (b"cell,low,high\n4,0\n", 2),
+    (b"cell,low,high\n4,0,\n", 2),
+    (b"cell,low,high\n4,,50\n", 2),
+    (b"cell,low,high\n4,0,50,\n", 2),
+    (b"cell,low,high\n4,0, 50\n", 2),
+    (b"cell,low,high\n04,0,50\n", 2),
+    // No ends.
+    (b"cell,low,high\n4,open,50\n", 2),
+    (b"cell,low,high\n4,0,Open\n", 2),
+    (b"cell,low,high\n4,00,50\n", 2),
+    (b"cell,low,high\n4,-1,50\n", 2),
+    (b"cell,low,high\n4,1.5,50\n", 2),
+    (b"cell,low,high\n4,1/,50\n", 2),
+    (b"cell,low,high\n4,/2,50\n", 2),
+    (b"cell,low,high\n4,3/0,50\n", 2),
+    (b"cell,low,high\n4,3/1,50\n", 2),
+    (b"cell,low,high\n4,1/02,50\n", 2),
+    (b"cell,low,high\n4,1/2/3,50\n", 2),
+    (
+        b"cell,low,high\n4,0,170141183460469231731687303715884105728\n",
+        2,
+    ),
+];
+
+#[test]
+fn no_intervals(rt: HostRuntime) -> Result<(), Fail> {
+    for (intervals, line) in &NO_INTERVALS {
+        let said = answer_with(rt.alloc(), TWO_WAY, intervals)?;
+        assert_eq!(rt;
+            said.err(),
+            Some(AskStop::Intervals(IntervalFault::Line(*line)))
+        );
+    }
+    Ok(())
+}
+
+// Where there is no such file, that is said; where there is no release, the file isn't looked at.
+#[test]
+fn intervals_absent(rt: HostRuntime) -> Result<(), Fail> {
+    let absent = Some(AskStop::Intervals(IntervalFault::Absent));
+    assert_eq!(rt; stop_of(rt.alloc(), INTERVALS, TWO_WAY, b"", None)?, absent);
+    let wanted = CheckStop::Inputs(InputStop::Refused(Fault::Absent(FileRef::Certificate)));
+    assert_eq!(rt;
+        stop_of(rt.alloc(), INTERVALS, TWO_WAY, b"t.cert", None)?,
+        Some(AskStop::Stopped(wanted))
+    );
+    Ok(())
+}
+
+// Why there is no listing with intervals where the call of this number fails, on a shelf that gives each file by one read.
+fn stop_at(alloc: Global, call: u64) -> Result<Option<AskStop>, Memory> {
+    let words = texts_of(alloc, INTERVALS)?;
+    let held = held_with(alloc, TWO_WAY, TWO_WAY_INTERVALS)?;
+    let mut failing = Vec::new(alloc);
+    failing.push(call)?;
+    let mut shelf = MemoryShelf::new(held, failing, 4096);
+    Ok(list_asked(alloc, words.as_slice(), &mut shelf).err())
+}
+
+// The job, its four files and then the intervals are read by three calls each: one for the name, one that gives the bytes,
+// and one that gives none.
+#[test]
+fn intervals_unread(rt: HostRuntime) -> Result<(), Fail> {
+    let failed = Some(AskStop::Intervals(IntervalFault::Failed));
+    for call in 16..19 {
+        assert_eq!(rt; stop_at(rt.alloc(), call)?, failed);
+    }
+    assert!(rt; matches!(
+        stop_at(rt.alloc(), 15)?,
+        Some(AskStop::Stopped(CheckStop::Inputs(InputStop::ReadFault(_))))
+    ));
+    assert_eq!(rt; stop_at(rt.alloc(), 19)?, None);
     Ok(())
 }
 
@@ -594,7 +772,7 @@ const NO_JOB: AskStop = AskStop::Stopped(CheckStop::Inputs(InputStop::Refused(Fa
 ))));
 
 // Words, and what is said to them where there are no files.
-const WORDS: [(&[&[u8]], AskStop); 10] = [
+const WORDS: [(&[&[u8]], AskStop); 17] = [
     (&[], AskStop::Usage),
     (&[b"", b"--released"], AskStop::Usage),
     (&[b"r.job", b"--release"], AskStop::Usage),
@@ -605,6 +783,25 @@ const WORDS: [(&[&[u8]], AskStop); 10] = [
     (&[b"--relations", b"r.job"], AskStop::Usage),
     (&[b"r.job", b"--released", b"--relations"], AskStop::Usage),
     (&[b"r.job", b"--relations"], NO_JOB),
+    (&[b"r.job", b"--released", b"--intervals"], AskStop::Usage),
+    (&[b"r.job", b"--intervals", b"t.int"], AskStop::Usage),
+    (
+        &[b"r.job", b"--relations", b"--intervals", b"t.int"],
+        AskStop::Usage,
+    ),
+    (
+        &[b"r.job", b"--intervals", b"--released", b"t.int"],
+        AskStop::Usage,
+    ),
+    (
+        &[b"", b"--released", b"--intervals", b"t.int"],
+        AskStop::Usage,
+    ),
+    (
+        &[b"r.job", b"--released", b"--intervals", b""],
+        AskStop::Usage,
+    ),
+    (INTERVALS, NO_JOB),
 ];
 
 #[test]

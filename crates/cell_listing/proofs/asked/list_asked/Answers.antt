@@ -1,20 +1,18 @@
-use Rattle.std.proofs.Common.{◌≡◌, ◌≤◌, None, arith, sym}
-use Rattle.job_inputs.proofs.Causes.{longer-look}
-use Rattle.job_inputs.specs.ReadFiles.{limit, output_limit}
-use Rattle.cell_listing.specs.Asked.{release_named}
+use Rattle.std.proofs.Common.{◌≡◌, None, sym}
+use Rattle.cell_listing.specs.Asked.{release_named, relations_named}
 use Rattle.cell_listing.specs.Calls.{job_named}
-use Rattle.cell_listing.proofs.Asking.{no_job_alone, one_option}
+use Rattle.cell_listing.proofs.Asking.{no_job_by_four, no_option_by_four}
+use Rattle.std.specs.Prelude.{codes}
 use Rattle.cell_listing.proofs.asked.list_asked.Goals as goal
 
--- an input is no longer than what was put may be
-at_most : limit ≤ output_limit
-at_most = omega arith
-
 pub returns-in-Some-clause-shelf : goal.returns-in-Some-clause-shelf
-returns-in-Some-clause-shelf g c = longer-look limit output_limit _ _ at_most c.asked_relations.ensures.answers.run.looked.shelf
+returns-in-Some-clause-shelf g c = c.asked_intervals.ensures.answers.run.shelf
 
 pub returns-in-Some-clause-cells : goal.returns-in-Some-clause-cells
-returns-in-Some-clause-cells g c = λ name named. absurd (let other : job_named c.args.words.now ≡ None = no_job_alone c.args.words.now c.in-Some.name.now (sym c.in-Some.ensures) in cc)
+returns-in-Some-clause-cells g c = λ name named. absurd (let other : job_named c.args.words.now ≡ None = no_job_by_four c.args.words.now _ (sym c.in-Some.ensures) in cc)
 
 pub returns-in-Some-clause-released : goal.returns-in-Some-clause-released
-returns-in-Some-clause-released g c = λ name named. absurd (let other : release_named c.args.words.now ≡ None = one_option c.args.words.now c.in-Some.name.now (sym c.in-Some.ensures) in cc)
+returns-in-Some-clause-released g c = λ name named. absurd (let other : release_named c.args.words.now ≡ None = no_option_by_four (codes "--released") c.args.words.now _ (sym c.in-Some.ensures) in cc)
+
+pub returns-in-Some-clause-relations : goal.returns-in-Some-clause-relations
+returns-in-Some-clause-relations g c = λ name named. absurd (let other : relations_named c.args.words.now ≡ None = no_option_by_four (codes "--relations") c.args.words.now _ (sym c.in-Some.ensures) in cc)
