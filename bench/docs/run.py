@@ -191,10 +191,10 @@ def outputs_of(command):
 
 
 def listing(command):
-    """The listing of a job's cells in each example, with the release or the relations where these are asked for, or what awk prints of it."""
+    """The listing of a job's cells in each example, with what else is asked for, or what awk or sed prints of it."""
     asked, _, further = command.partition(" | ")
     words = asked.split()
-    option = next((it[2:] for it in words if it in ("--released", "--relations")), "cells")
+    option = next((it[2:] for it in ("--intervals", "--released", "--relations") if it in words), "cells")
     name = words[1].replace(".job", "." + option)
     if further:
         return awk(f"cat {name} | {further}")
