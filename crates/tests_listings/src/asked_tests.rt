@@ -481,10 +481,12 @@ fn intervals_unread(rt: HostRuntime) -> Result<(), Fail> {
     for call in 16..19 {
         assert_eq!(rt; stop_at(rt.alloc(), call)?, failed);
     }
-    assert!(rt; matches!(
-        stop_at(rt.alloc(), 15)?,
-        Some(AskStop::Stopped(CheckStop::Inputs(InputStop::ReadFault(_))))
-    ));
+    assert!(rt;
+        matches!(
+            stop_at(rt.alloc(), 15)?,
+            Some(AskStop::Stopped(CheckStop::Inputs(InputStop::ReadFault(_))))
+        )
+    );
     assert_eq!(rt; stop_at(rt.alloc(), 19)?, None);
     Ok(())
 }
