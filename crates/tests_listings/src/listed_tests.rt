@@ -1,10 +1,5 @@
-use apriori::PriorWhy;
-use cell_listing::{ListStop, list_cells};
-use job_inputs::{Fault, FileRef, InputStop};
-use job_lang::JobWhy;
-use microdata::RowWhy;
+use cell_listing::list_cells;
 use office_io::MemoryShelf;
-use rda_meta::MetaWhy;
 use sdc_base::{Memory, Text};
 use std::alloc::Global;
 use std::rt::HostRuntime;
@@ -31,104 +26,22 @@ const FILES: [(&[u8], &[u8]); 4] = [
     (b"p.hst", PRIORS),
 ];
 
-// A shelf with the files of the job, and this in place of what one of them holds.
-fn shelf_with(alloc: Global, name: &[u8], other: Option<&[u8]>) -> Result<MemoryShelf, Memory> {
+// A shelf with the files of the job.
+fn shelf_of_job(alloc: Global) -> Result<MemoryShelf, Memory> {
     let mut files = Vec::new(alloc);
     for (file, bytes) in &FILES {
-        let held = if *file == name { other } else { Some(*bytes) };
-        if let Some(held) = held {
-            let held = Vec::from_slice(alloc, held)?;
-            files.push((Text::from_slice(alloc, file)?, held))?;
-        }
+        let held = Vec::from_slice(alloc, *bytes)?;
+        files.push((Text::from_slice(alloc, file)?, held))?;
     }
     Ok(MemoryShelf::new(files, Vec::new(alloc), 7))
 }
 
-// What is said to words, with this in place of what one of the files holds, where it is there.
-fn answer(
-    alloc: Global,
-    asked: &[&[u8]],
-    name: &[u8],
-    other: Option<&[u8]>,
-) -> Result<Result<Vec<u8>, ListStop>, Memory> {
-    let words = texts_of(alloc, asked)?;
-    let mut shelf = shelf_with(alloc, name, other)?;
-    Ok(list_cells(alloc, words.as_slice(), &mut shelf))
-}
-
 // Whether this is the listing of the job.
 fn lists(alloc: Global, listing: &[u8]) -> Result<bool, Memory> {
-    let said = answer(alloc, &[b"r.job"], b"", None)?;
+    let words = texts_of(alloc, &[b"r.job"])?;
+    let mut shelf = shelf_of_job(alloc)?;
+    let said = list_cells(alloc, words.as_slice(), &mut shelf);
     Ok(said.is_ok_and(|bytes| bytes.as_slice() == listing))
-}
-
-#[test]
-fn listing(rt: HostRuntime) -> Result<(), Fail> {
-    assert!(rt; lists(rt.alloc(), LISTING)?);
-    Ok(())
-}
-
-// A file, what it holds, where it is there, and the fault.
-const REFUSALS: [(&[u8], Option<&[u8]>, Fault); 8] = [
-    (b"r.job", None, Fault::Absent(FileRef::Job)),
-    (b"m.rda", None, Fault::Absent(FileRef::Metadata)),
-    (b"m.asc", None, Fault::Absent(FileRef::Microdata)),
-    (b"p.hst", None, Fault::Absent(FileRef::Apriori(0))),
-    (
-        b"r.job",
-        Some(b"<OPENMICRODATA> m.asc\n"),
-        Fault::Job {
-            line: 1,
-            why: JobWhy::BadValue,
-        },
-    ),
-    (
-        b"m.rda",
-        Some(b"A 1 0\n"),
-        Fault::Meta {
-            line: 1,
-            why: MetaWhy::BadPlace,
-        },
-    ),
-    (
-        b"m.asc",
-        Some(b"a,10.5\na\n"),
-        Fault::Row {
-            number: 2,
-            why: RowWhy::Short,
-        },
-    ),
-    (
-        b"p.hst",
-        Some(b"a,;s\na,;p\n\"b;p\n"),
-        Fault::Prior {
-            table: 0,
-            line: 3,
-            why: PriorWhy::ProtectedPrimary,
-        },
-    ),
-];
-
-// Why there is no listing.
-fn stop_of(
-    alloc: Global,
-    asked: &[&[u8]],
-    name: &[u8],
-    other: Option<&[u8]>,
-) -> Result<Option<ListStop>, Memory> {
-    let said = answer(alloc, asked, name, other)?;
-    Ok(said.err())
-}
-
-#[test]
-fn refusals(rt: HostRuntime) -> Result<(), Fail> {
-    for (name, held, fault) in &REFUSALS {
-        assert_eq!(rt;
-            stop_of(rt.alloc(), &[b"r.job"], name, *held)?,
-            Some(ListStop::Inputs(InputStop::Refused(*fault)))
-        );
-    }
-    Ok(())
 }
 
 // The words, each of them a text.
@@ -140,16 +53,8 @@ pub(crate) fn texts_of(alloc: Global, words: &[&[u8]]) -> Result<Vec<Text>, Memo
     Ok(texts)
 }
 
-// Words that don't name one job.
-const OTHER_WORDS: [&[&[u8]]; 3] = [&[], &[b""], &[b"r.job", b"r.job"]];
-
 #[test]
-fn usage(rt: HostRuntime) -> Result<(), Fail> {
-    for words in &OTHER_WORDS {
-        assert_eq!(rt;
-            stop_of(rt.alloc(), words, b"", None)?,
-            Some(ListStop::Usage)
-        );
-    }
+fn listing(rt: HostRuntime) -> Result<(), Fail> {
+    assert!(rt; lists(rt.alloc(), LISTING)?);
     Ok(())
 }

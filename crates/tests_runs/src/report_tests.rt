@@ -1,55 +1,16 @@
+use crate::runs::status_and_text;
 use apriori::PriorWhy;
-use attackers::ExtraFault;
 use certificate::CertWhy;
 use code_trees::TreeFault;
-use interval_audit::Question;
 use job_lang::{Command, JobWhy};
 use job_run::{DemoSummary, Fault, FileRef, Report, Stuck, Summary};
-use kit_runs::{
-    ONE_TABLE, ONE_TABLE_RELEASED, ONE_VARIABLE, SEVEN_RECORDS, USAGE, run_over, status_and_text,
-};
 use microdata::RowWhy;
 use rda_meta::MetaWhy;
 use sdc_base::{Items, Memory, Side};
 use std::alloc::Global;
 use std::rt::HostRuntime;
 use std::test::Fail;
-use worlds::{Multipliers, RefutationFault, WorldFault};
-
-// The files of a small job.
-const SMALL_JOB: [(&str, &str); 3] = [
-    ("r.job", ONE_TABLE),
-    ("m.rda", ONE_VARIABLE),
-    ("m.asc", SEVEN_RECORDS),
-];
-
-// What words ask for.
-const WORDS: [(&[&str], &str); 15] = [
-    (&[], USAGE),
-    (&["run"], USAGE),
-    (&["run", ""], USAGE),
-    (&["run", "r.job", "r.job"], USAGE),
-    (&["Run", "r.job"], USAGE),
-    (&["run ", "r.job"], USAGE),
-    (&["r.job", "run"], USAGE),
-    (&["check", "r.job", "t.csv"], USAGE),
-    (&["intervals", "r.job"], USAGE),
-    (&["migrate", "t.cert"], USAGE),
-    (&["audit", "r.job"], USAGE),
-    (&["audits", "r.job", "out.csv"], USAGE),
-    (&["Migrate", "t.cert", "u.cert"], USAGE),
-    (&["run", "r"], "2 refused: job: Absent\n"),
-    (&["run", "r.job"], ONE_TABLE_RELEASED),
-];
-
-#[test]
-fn words(rt: HostRuntime) -> Result<(), Fail> {
-    for (words, want) in &WORDS {
-        let got = run_over(rt.alloc(), words, &SMALL_JOB)?;
-        assert_eq!(rt; got.as_str(), *want);
-    }
-    Ok(())
-}
+use worlds::Multipliers;
 
 const SUMMARY: Summary = Summary {
     records: 1_000_000,
@@ -233,80 +194,16 @@ fn report_of_a_cell_without_guard(rt: HostRuntime) -> Result<(), Fail> {
     Ok(())
 }
 
-// The line where there is no rounding.
-#[test]
-fn report_of_no_rounding(rt: HostRuntime) -> Result<(), Fail> {
-    let got = status_and_text(rt.alloc(), &Report::NoRounding)?;
-    assert_eq!(rt; got.as_str(), "3 no rounding\n");
-    Ok(())
-}
-
-// The lines of contributors that aren't guarded against.
-const NOT_GUARDED: [(ExtraFault, &str); 4] = [
-    (
-        ExtraFault::Open {
-            row: 0,
-            cell: 2,
-            side: Side::Below,
-        },
-        "3 not guarded: Open 1 2 below\n",
-    ),
-    (
-        ExtraFault::Need(3, RefutationFault::NotBelow),
-        "3 not guarded: Need 3 NotBelow\n",
-    ),
-    (
-        ExtraFault::Guard(0, WorldFault::Shown(7)),
-        "3 not guarded: Guard 0 Shown 7\n",
-    ),
-    (ExtraFault::NeedCell(1), "3 not guarded: NeedCell 1\n"),
-];
-
-#[test]
-fn reports_of_contributors(rt: HostRuntime) -> Result<(), Fail> {
-    for (fault, want) in &NOT_GUARDED {
-        let got = status_and_text(rt.alloc(), &Report::NotGuarded(*fault))?;
-        assert_eq!(rt; got.as_str(), *want);
-    }
-    Ok(())
-}
-
-// What is said where a question or a search is cut off for this.
-fn said_of(alloc: Global, stuck: Stuck) -> Result<String, Memory> {
-    let report = Report::Undecided {
-        stuck,
-        repairs: Items::empty(alloc),
-        shown: Items::empty(alloc),
-        against: None,
-    };
-    status_and_text(alloc, &report)
-}
-
-const QUESTION: Question = Question {
-    cell: 7,
-    side: Side::Above,
-    target: 1,
-};
-
-// The line of a question that is about too many cells.
-#[test]
-fn report_of_a_large_question(rt: HostRuntime) -> Result<(), Fail> {
-    let large = Stuck::Size {
-        question: QUESTION,
-        hidden: 5000,
-    };
-    let got = said_of(rt.alloc(), large)?;
-    assert_eq!(rt;
-        got.as_str(),
-        "4 undecided: size, cell 7 above, 5000 hidden\n"
-    );
-    Ok(())
-}
-
-// And the line of a search that is cut off.
+// The line of a search that is cut off.
 #[test]
 fn report_of_a_long_search(rt: HostRuntime) -> Result<(), Fail> {
-    let got = said_of(rt.alloc(), Stuck::Nodes(1_000_000_000_000))?;
+    let report = Report::Undecided {
+        stuck: Stuck::Nodes(1_000_000_000_000),
+        repairs: Items::empty(rt.alloc()),
+        shown: Items::empty(rt.alloc()),
+        against: None,
+    };
+    let got = status_and_text(rt.alloc(), &report)?;
     assert_eq!(rt; got.as_str(), "4 undecided: nodes, 1000000000000\n");
     Ok(())
 }
