@@ -1,7 +1,7 @@
 use crate::microdata_tests::{Expected, agrees, agrees_at_cuts, read};
 use crate::record_layouts::{Shape, layout_of};
-use RowWhy::{Negative, TooLong, TooManyCodes};
-use microdata::{Reader, Records, RowError, RowWhy};
+use RowWhy::{Negative, TooLong};
+use microdata::{Reader, RowError, RowWhy};
 use sdc_base::Memory;
 use std::alloc::Global;
 use std::rt::HostRuntime;
@@ -74,103 +74,6 @@ fn long_records_at_every_cut(rt: HostRuntime) -> Result<(), Fail> {
     for (length, end, expected) in &LONG_RECORDS {
         assert!(rt; agrees_however_cut(rt.alloc(), *length, end, expected)?);
     }
-    Ok(())
-}
-
-// Records of so many codes by levels: 70 first bytes with 70 second ones each, and further second ones of the first.
-fn many_codes(alloc: Global, count: u32) -> Result<Vec<u8>, Memory> {
-    let mut bytes = Vec::new(alloc);
-    for i in 0..count {
-        if i < 4900 {
-            bytes.push((100 + i / 70) as u8)?;
-            bytes.push((33 + i % 70) as u8)?;
-        } else {
-            bytes.push(100)?;
-            bytes.push((103 + (i - 4900) % 100) as u8)?;
-        }
-        bytes.extend_from_slice(b"  1\n")?;
-    }
-    Ok(bytes)
-}
-
-// With their prefixes 4,930 codes are 5,000.
-#[test]
-fn many_codes_by_levels(rt: HostRuntime) -> Result<(), Fail> {
-    let most = many_codes(rt.alloc(), 4930)?;
-    assert!(rt; read(rt.alloc(), Shape::Levels, &most, 0, 4096).is_ok());
-    Ok(())
-}
-
-// One more is one too many.
-#[test]
-fn too_many_codes_by_levels(rt: HostRuntime) -> Result<(), Fail> {
-    let more = many_codes(rt.alloc(), 4931)?;
-    let answer = read(rt.alloc(), Shape::Levels, &more, 0, 4096);
-    assert!(rt; agrees(&answer, &Err((4931, TooManyCodes))));
-    Ok(())
-}
-
-// Records of so many further codes of four digits, and then one of the code of the list and one of the first code.
-fn further_codes(alloc: Global, count: u32) -> Result<Vec<u8>, Memory> {
-    let mut bytes = Vec::new(alloc);
-    for i in 0..count {
-        bytes.extend_from_slice(1000_u32.saturating_add(i).to_string(alloc)?.as_bytes())?;
-        bytes.extend_from_slice(b"                  1\n")?;
-    }
-    bytes.extend_from_slice(b"b                     2\n")?;
-    bytes.extend_from_slice(b"1000                  3\n")?;
-    Ok(bytes)
-}
-
-// The code at a place in the first tree, and how many records there are.
-fn code_and_count(
-    alloc: Global,
-    answer: &Result<Records, RowError>,
-    place: u32,
-) -> Result<Vec<u8>, Memory> {
-    let mut text = Vec::new(alloc);
-    if let Ok(records) = answer {
-        for tree in records.trees.as_slice() {
-            if let Some(code) = tree.code(place) {
-                text.extend_from_slice(code)?;
-            }
-        }
-        text.push(b' ')?;
-        text.extend_from_slice(records.rows.as_slice().len().to_string(alloc)?.as_bytes())?;
-    }
-    Ok(text)
-}
-
-// What is read of so many further codes, all bytes at once.
-fn read_further(alloc: Global, count: u32) -> Result<Records, RowError> {
-    let bytes = further_codes(alloc, count)?;
-    let mut reader = Reader::new(alloc, layout_of(alloc, Shape::Wide)?)?;
-    reader.feed(&bytes)?;
-    reader.finish()
-}
-
-// Places, and the code at each of the first tree, with the number of records behind it.
-const FURTHER_CODES: [(u32, &[u8]); 3] = [(1, b"b 5001"), (5000, b"5998 5001"), (5001, b" 5001")];
-
-// With the listed one 4,999 further codes are 5,000.
-#[test]
-fn many_further_codes(rt: HostRuntime) -> Result<(), Fail> {
-    let answer = read_further(rt.alloc(), 4999);
-    for (place, wanted) in &FURTHER_CODES {
-        assert_eq!(rt;
-            code_and_count(rt.alloc(), &answer, *place)?.as_slice(),
-            *wanted
-        );
-    }
-    Ok(())
-}
-
-// One more is one too many.
-#[test]
-fn too_many_further_codes(rt: HostRuntime) -> Result<(), Fail> {
-    let more = further_codes(rt.alloc(), 5000)?;
-    let answer = read(rt.alloc(), Shape::Wide, &more, 0, 4096);
-    assert!(rt; agrees(&answer, &Err((5000, TooManyCodes))));
     Ok(())
 }
 
