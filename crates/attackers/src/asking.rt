@@ -61,6 +61,19 @@ pub(crate) fn questions_about(
     Some(KeptQuestions::new(alloc, siege.system.system(), siege.cells, hidden))
 }
 
+// The same about these hidden cells, which are those of the kept questions and more.
+pub(crate) fn questions_about_more(
+    alloc: Global,
+    siege: &Siege<'_>,
+    hidden: &Hidden,
+    kept: Option<KeptQuestions>,
+) -> Option<KeptQuestions> {
+    match kept {
+        Some(questions) => Some(questions.widen(alloc, siege.system.system(), siege.cells, hidden)),
+        None => questions_about(alloc, siege, hidden),
+    }
+}
+
 // Whether a hidden set takes a primary cell to a side as far as its level, asked of what is kept, where it has an answer.
 fn ask_kept(
     alloc: Global,

@@ -1,7 +1,7 @@
 ghost use Rattle.std.specs.Prelude.{◌≡◌, ◌<◌, ◌++◌, ◌∷◌, [], length, OnOk, OnErr};
 ghost use Rattle.repair.specs.HidingOrder.{hide};
 
-use crate::asking::questions_about;
+use crate::asking::questions_about_more;
 use crate::siege::Siege;
 use certificate::{ExtraNeed, WorldLine};
 use kept_questions::KeptQuestions;
@@ -30,13 +30,14 @@ impl Progress {
         self.guards.push(line)
     }
 
-    /// Keeps questions about the cells that are hidden now.
+    /// Keeps questions about the cells that are hidden now, which are those of before and more.
     pub(crate) fn keep_questions(&mut self, alloc: Global, siege: &Siege<'_>)
         ensures flags { self.new.hidden.flags ≡ self.old.hidden.flags }
         ensures guards { self.new.guards ≡ self.old.guards }
         ensures extras { self.new.extras ≡ self.old.extras }
     {
-        self.kept = questions_about(alloc, siege, &self.hidden);
+        let kept = self.kept.take();
+        self.kept = questions_about_more(alloc, siege, &self.hidden, kept);
     }
 
     /// Hides an extra cell, and keeps its reason.

@@ -176,7 +176,7 @@ fn all_searches(
     let flags = hidden.flags.as_slice();
     let mut searches = Vec::new(alloc);
     for relations in rows {
-        let search = CompactSearch::new(alloc, system, cells, flags, relations);
+        let search = CompactSearch::for_ends(alloc, system, cells, flags, relations);
         searches.push(search).ok()?;
     }
     Some(searches)

@@ -1,6 +1,6 @@
 // The objective of a question.
 use crate::entry::Entry;
-use crate::row::{Row, value_of};
+use crate::row::{Row, make_lowest, mask_of, value_of};
 use crate::table::Table;
 use std::alloc::Global;
 
@@ -13,6 +13,7 @@ pub(crate) fn aim(alloc: Global, table: &mut Table, variable: usize, rises: bool
         den: 1,
         value: 0,
         entries: Vec::new(alloc),
+        mask: 0,
     };
     if one.is_basic() {
         let row = table.rows.get(one.row)?;
@@ -25,6 +26,8 @@ pub(crate) fn aim(alloc: Global, table: &mut Table, variable: usize, rises: bool
         };
         objective.entries.push(entry).ok()?;
     }
+    make_lowest(&mut objective)?;
+    objective.mask = mask_of(&objective.entries);
     objective.value = value_of(&objective.entries, &table.variables)?;
     table.objective = objective;
     Some(())

@@ -133,3 +133,17 @@ fn put_place(form: &mut Vec<Entry>, cells: &[u32], cell: u32, number: i64) -> Op
 pub(crate) fn place_of(cells: &[u32], cell: u32) -> Option<usize> {
     cells.binary_search(&cell).ok()
 }
+
+// A copy of a component.
+pub(crate) fn copy_of(alloc: Global, component: &Component) -> Option<Component> {
+    let mut forms = Vec::new(alloc);
+    for form in &component.forms {
+        forms.push(form.as_slice().to_vec(alloc).ok()?).ok()?;
+    }
+    Some(Component {
+        cells: component.cells.as_slice().to_vec(alloc).ok()?,
+        bounds: component.bounds.as_slice().to_vec(alloc).ok()?,
+        relations: component.relations.as_slice().to_vec(alloc).ok()?,
+        forms,
+    })
+}

@@ -12,8 +12,8 @@ pub struct Stop {
     pub world: World,
     /// The multipliers of the system's relations that say that no world takes it further.
     pub multipliers: Multipliers,
-    /// The lists of the cells' moves and the relations' weights that show it.
-    pub lists: MoveLists,
+    /// The lists of the cells' moves and the relations' weights that show it, unless the search is for ends alone.
+    pub lists: Option<MoveLists>,
 }
 
 /// What a search finds, unchecked.

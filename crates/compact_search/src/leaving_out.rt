@@ -4,7 +4,7 @@ use crate::amounts::is_upper;
 use crate::entering::{Entering, best_entering};
 use crate::entry::Entry;
 use crate::pivot::pivot;
-use crate::ratio::sign_of;
+use crate::ratio::{crossed_by, sign_of};
 use crate::row::Row;
 use crate::stepping::step;
 use crate::table::Table;
@@ -61,7 +61,8 @@ fn leave_at_zero(alloc: Global, table: &mut Table, row: usize) -> Option<bool> {
     let Some(entering) = free_variable(table, table.rows.get(row)?) else {
         return Some(true);
     };
-    pivot(alloc, table, row, entering, State::Zero)?;
+    let crossed = crossed_by(alloc, table, entering)?;
+    pivot(alloc, table, row, entering, State::Zero, &crossed)?;
     Some(true)
 }
 

@@ -24,8 +24,10 @@ mod search;
 mod start;
 mod stepping;
 mod table;
+mod taking_over;
 mod variable;
 mod walk;
+mod without_slacks;
 mod world_read;
 
 pub use found::{Found, Stop};

@@ -1,14 +1,16 @@
 // The pivot: a nonbasic variable enters the basis for the basic variable of a row.
 use crate::divisor::divisor_of;
-use crate::entry::{Entry, number_at};
+use crate::entry::Entry;
 use crate::merge::{Pair, merge};
-use crate::row::{Row, make_lowest, value_of};
+use crate::row::{Row, make_lowest, mask_of, value_of};
 use crate::table::Table;
 use crate::variable::State;
 use std::alloc::Global;
 
 // From which den on a row is brought to lowest terms: small ones leave room for some exchanges more.
 const LARGE_DEN: i64 = 1 << 20;
+// The same of the objective, whose den is multiplied by a question's target.
+const LARGE_OBJECTIVE: i64 = 1 << 8;
 
 // Makes a variable basic in a row, whose basic one is left standing in a state. None where a number leaves 64 or 128
 // bits, there is nothing to exchange or no memory; then the table is of no use.
@@ -18,6 +20,7 @@ pub(crate) fn pivot(
     row: usize,
     entering: usize,
     state: State,
+    crossed: &[usize],
 ) -> Option<()> {
     let leaving = table.rows.get(row)?.basic;
     let goes = table.goes(leaving);
@@ -26,8 +29,11 @@ pub(crate) fn pivot(
     table.put_state(leaving, state)?;
     table.put_basic(entering, row)?;
     solved.value = value_of(&solved.entries, &table.variables)?;
-    substitute_all(table, row, &solved, before)?;
+    substitute_all(table, row, &solved, before, crossed)?;
     substitute(&mut table.objective, &solved, before, &mut table.made)?;
+    if table.objective.den >= LARGE_OBJECTIVE {
+        make_lowest(&mut table.objective)?;
+    }
     let place = table.rows.get_mut(row)?;
     *place = solved;
     Some(())
@@ -35,7 +41,7 @@ pub(crate) fn pivot(
 
 // A row solved for a nonbasic variable of it; its value is still to be taken.
 fn solve(alloc: Global, old: &Row, entering: usize, goes: bool) -> Option<Row> {
-    let number = number_at(&old.entries, entering);
+    let number = old.number_at(entering);
     if number == 0 {
         return None;
     }
@@ -53,9 +59,11 @@ fn solve(alloc: Global, old: &Row, entering: usize, goes: bool) -> Option<Row> {
         } else {
             solved_entries(alloc, &old.entries, own, entering)?
         },
+        mask: 0,
     };
     turn_others(&mut solved.entries, old.basic, turn.checked_neg()?)?;
     make_lowest(&mut solved)?;
+    solved.mask = mask_of(&solved.entries);
     Some(solved)
 }
 
@@ -104,10 +112,17 @@ fn turn_others(entries: &mut [Entry], but: usize, turn: i64) -> Option<()> {
     Some(())
 }
 
-// Takes the solved variable, which stood somewhere, out of all rows but one.
-fn substitute_all(table: &mut Table, but: usize, solved: &Row, before: i64) -> Option<()> {
-    for (place, row) in table.rows.iter_mut().enumerate() {
-        if place != but {
+// Takes the solved variable, which stood somewhere, out of the rows in these places but one.
+fn substitute_all(
+    table: &mut Table,
+    but: usize,
+    solved: &Row,
+    before: i64,
+    crossed: &[usize],
+) -> Option<()> {
+    for place in crossed {
+        if *place != but {
+            let row = table.rows.get_mut(*place)?;
             substitute(row, solved, before, &mut table.made)?;
         }
     }
@@ -116,7 +131,7 @@ fn substitute_all(table: &mut Table, but: usize, solved: &Row, before: i64) -> O
 
 // Takes the solved variable, which stood somewhere, out of a row.
 fn substitute(row: &mut Row, solved: &Row, before: i64, made: &mut [Entry]) -> Option<()> {
-    let number = number_at(&row.entries, solved.basic);
+    let number = row.number_at(solved.basic);
     if number == 0 {
         return Some(());
     }
@@ -136,6 +151,7 @@ fn substitute(row: &mut Row, solved: &Row, before: i64, made: &mut [Entry]) -> O
     row.value = sum_of(others, times, solved.value, more)?;
     row.entries.clear();
     row.entries.extend_from_slice(made.get(..length)?).ok()?;
+    row.mask = mask_of(&row.entries);
     row.den = row.den.checked_mul(times)?;
     if row.den < LARGE_DEN {
         return Some(());

@@ -1,7 +1,7 @@
 // The ratio test: which variable first comes to a bound while another enters.
 use crate::amounts::{Amount, amounts_of, is_lower, is_upper};
 use crate::entering::Entering;
-use crate::entry::{Entry, number_at};
+use crate::entry::Entry;
 use crate::lexical::{Over, comes_before};
 use crate::row::Row;
 use crate::table::Table;
@@ -34,12 +34,24 @@ struct Test<'a> {
     entering: Entering,
 }
 
-// The first limit of an entering variable; within none where nothing stops it. None where a number leaves 64 or 128
-// bits or memory is wanting.
+// The places of the rows that have a number at a variable; none where memory is wanting.
+pub(crate) fn crossed_by(alloc: Global, table: &Table, variable: usize) -> Option<Vec<usize>> {
+    let mut crossed = Vec::new(alloc);
+    for (place, row) in table.rows.iter().enumerate() {
+        if row.number_at(variable) != 0 {
+            crossed.push(place).ok()?;
+        }
+    }
+    Some(crossed)
+}
+
+// The first limit of an entering variable, which crosses the rows in these places; within none where nothing stops it.
+// None where a number leaves 64 or 128 bits or memory is wanting.
 pub(crate) fn first_limit(
     alloc: Global,
     table: &Table,
     entering: Entering,
+    crossed: &[usize],
 ) -> Option<Option<Limit>> {
     let test = Test {
         alloc,
@@ -50,8 +62,9 @@ pub(crate) fn first_limit(
         limit: own_limit(table.variable(entering.variable)?, entering.rises)?,
         amounts: None,
     };
-    for (place, row) in table.rows.iter().enumerate() {
-        if let Some(limit) = row_limit(table, entering, place, row)? {
+    for place in crossed {
+        let row = table.rows.get(*place)?;
+        if let Some(limit) = row_limit(table, entering, *place, row)? {
             offer(test, &mut least, limit)?;
         }
     }
@@ -95,7 +108,7 @@ fn bound_towards(variable: Variable, rises: bool) -> Option<(State, i64)> {
 
 // How far the basic variable of a row lets an entering one go.
 fn row_limit(table: &Table, entering: Entering, place: usize, row: &Row) -> Option<Option<Limit>> {
-    let number = number_at(&row.entries, entering.variable);
+    let number = row.number_at(entering.variable);
     if number == 0 {
         return Some(None);
     }

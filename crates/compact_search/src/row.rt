@@ -1,6 +1,6 @@
 // The rows of a table.
 use crate::divisor::divisor_of;
-use crate::entry::Entry;
+use crate::entry::{Entry, number_at};
 use crate::variable::Variable;
 
 // A row: a basic variable times the den, 1 or more, is the sum of the numbers times their nonbasic variables. The value
@@ -11,6 +11,32 @@ pub(crate) struct Row {
     pub(crate) den: i64,
     pub(crate) value: i128,
     pub(crate) entries: Vec<Entry>,
+    // For which variables there may be a number.
+    pub(crate) mask: u64,
+}
+
+impl Row {
+    // The number at a variable, 0 where there is none.
+    pub(crate) fn number_at(&self, variable: usize) -> i64 {
+        if self.mask & bit_of(variable) == 0 {
+            return 0;
+        }
+        number_at(&self.entries, variable)
+    }
+}
+
+// A bit for a variable, which it shares with others.
+fn bit_of(variable: usize) -> u64 {
+    1 << (variable % 64)
+}
+
+// The bits of the variables of a list.
+pub(crate) fn mask_of(entries: &[Entry]) -> u64 {
+    let mut mask = 0;
+    for entry in entries {
+        mask |= bit_of(entry.variable);
+    }
+    mask
 }
 
 // The sum of numbers times their variables where these stand; none where it leaves 128 bits.

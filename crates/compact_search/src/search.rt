@@ -1,18 +1,39 @@
 // The search over a component, as callers see it.
 use crate::aiming::aim;
-use crate::component::{Component, component_of, place_of};
+use crate::component::{Component, component_of, copy_of, place_of};
 use crate::found::{Found, Stop};
 use crate::leaving_out::drive_out;
+use crate::lists::MoveLists;
 use crate::lists_read::lists_of;
 use crate::multipliers_read::multipliers_of;
 use crate::returning::return_to_truths;
 use crate::row::{make_all_lowest, make_lowest};
 use crate::start::first_table;
 use crate::table::{Slacks, Table};
+use crate::taking_over::take_rows;
 use crate::walk::{Beyond, End, walk};
+use crate::without_slacks::without_slacks;
 use crate::world_read::{scale_to, world_of};
 use sdc_base::{Cell, Fraction, Side, System};
 use std::alloc::Global;
+
+// What a search is for: worlds alone; how far a cell can move, too; or multipliers as well that show it.
+#[derive(Clone, Copy)]
+enum Purpose {
+    Worlds,
+    Ends,
+    Multipliers,
+}
+
+impl Purpose {
+    // What becomes of a slack that leaves the basis.
+    fn slacks(self) -> Slacks {
+        match self {
+            Purpose::Worlds => Slacks::Go,
+            _ => Slacks::Stay,
+        }
+    }
+}
 
 /// A search for worlds over the hidden cells of a component.
 ///
@@ -26,7 +47,7 @@ pub struct CompactSearch {
     component: Component,
     // For each cell of the component whether it is left out.
     out: Vec<bool>,
-    slacks: Slacks,
+    purpose: Purpose,
     table: Option<Table>,
 }
 
@@ -41,7 +62,19 @@ impl CompactSearch {
         relations: &[u32],
     ) -> Option<CompactSearch> {
         let component = component_of(alloc, system, cells, flags, relations)?;
-        search_with(alloc, component, Slacks::Stay)
+        search_with(alloc, component, Purpose::Multipliers)
+    }
+
+    /// The same for ends alone: where it stops there are no lists.
+    pub fn for_ends(
+        alloc: Global,
+        system: &System,
+        cells: &[Cell],
+        flags: &[bool],
+        relations: &[u32],
+    ) -> Option<CompactSearch> {
+        let component = component_of(alloc, system, cells, flags, relations)?;
+        search_with(alloc, component, Purpose::Ends)
     }
 
     /// The same for worlds alone: where no world reaches a question's target, nothing is found. The slacks of relations
@@ -54,7 +87,38 @@ impl CompactSearch {
         relations: &[u32],
     ) -> Option<CompactSearch> {
         let component = component_of(alloc, system, cells, flags, relations)?;
-        search_with(alloc, component, Slacks::Go)
+        search_with(alloc, component, Purpose::Worlds)
+    }
+
+    /// A search for worlds alone over the same cells, with the equations of this one without their slacks. None where
+    /// memory is wanting.
+    pub fn worlds_alone(&self, alloc: Global) -> Option<CompactSearch> {
+        let component = copy_of(alloc, &self.component)?;
+        let out = self.out.as_slice().to_vec(alloc).ok()?;
+        let table = match &self.table {
+            Some(table) => without_slacks(alloc, table)?,
+            None => first_table(alloc, &component, &out, Slacks::Go)?,
+        };
+        Some(CompactSearch {
+            component,
+            out,
+            purpose: Purpose::Worlds,
+            table: Some(table),
+        })
+    }
+
+    /// Takes the equations over from a search that has multipliers, over a component within this one, of the same
+    /// system. To be called before a question is asked of this one. None where they don't fit or memory is wanting; the
+    /// next question then begins with a new table.
+    pub fn take_over(&mut self, alloc: Global, smaller: &CompactSearch) -> Option<()> {
+        let old = smaller.table.as_ref()?;
+        if !matches!(&old.slacks, Slacks::Stay) {
+            return None;
+        }
+        let mut table = self.take_table(alloc)?;
+        take_rows(alloc, &mut table, &self.component, &smaller.component, old)?;
+        self.table = Some(table);
+        Some(())
     }
 
     /// Lets all cells stand at their truths again, where the next question then begins. What it finds moves fewer cells
@@ -73,7 +137,12 @@ impl CompactSearch {
         let mut table = self.take_table(alloc)?;
         match drive_out(alloc, &mut table, place) {
             Some(()) => self.table = Some(table),
-            None => self.table = Some(first_table(alloc, &self.component, &self.out, self.slacks)?),
+            None => self.table = Some(first_table(
+                alloc,
+                &self.component,
+                &self.out,
+                self.purpose.slacks(),
+            )?),
         }
         Some(())
     }
@@ -104,19 +173,26 @@ impl CompactSearch {
         aim(alloc, &mut table, place, rises)?;
         let end = walk(alloc, &mut table, target, most_steps)?;
         if matches!(&end, End::Blocked) {
-            make_all_lowest(&mut table.rows)?;
-            make_lowest(&mut table.objective)?;
+            self.make_lowest_for(&mut table)?;
         }
         let found = self.found_of(alloc, &table, end, cell, target);
         self.table = Some(table);
         found
     }
 
+    // Brings to lowest terms what is said of a blocked table: its objective, and for lists its rows, too.
+    fn make_lowest_for(&self, table: &mut Table) -> Option<()> {
+        if matches!(&self.purpose, Purpose::Multipliers) {
+            make_all_lowest(&mut table.rows)?;
+        }
+        make_lowest(&mut table.objective)
+    }
+
     // The kept table, or a new one. It has to be put back.
     fn take_table(&mut self, alloc: Global) -> Option<Table> {
         match self.table.take() {
             Some(table) => Some(table),
-            None => first_table(alloc, &self.component, &self.out, self.slacks),
+            None => first_table(alloc, &self.component, &self.out, self.purpose.slacks()),
         }
     }
 
@@ -151,9 +227,9 @@ impl CompactSearch {
 
     // What a blocked table says: nothing where its slacks are dropped.
     fn blocked(&self, alloc: Global, table: &Table) -> Option<Found> {
-        match &self.slacks {
-            Slacks::Stay => self.stopped(alloc, table),
-            Slacks::Go => None,
+        match &self.purpose {
+            Purpose::Worlds => None,
+            _ => self.stopped(alloc, table),
         }
     }
 
@@ -171,19 +247,27 @@ impl CompactSearch {
             best,
             world,
             multipliers,
-            lists: lists_of(alloc, table, component)?,
+            lists: self.lists_for(alloc, table)?,
         }))
+    }
+
+    // The lists of a table that stops, where they are wanted.
+    fn lists_for(&self, alloc: Global, table: &Table) -> Option<Option<MoveLists>> {
+        match &self.purpose {
+            Purpose::Multipliers => Some(Some(lists_of(alloc, table, &self.component)?)),
+            _ => Some(None),
+        }
     }
 }
 
 // A search over a component of which no question has been asked.
-fn search_with(alloc: Global, component: Component, slacks: Slacks) -> Option<CompactSearch> {
+fn search_with(alloc: Global, component: Component, purpose: Purpose) -> Option<CompactSearch> {
     let out = Vec::from_elem(alloc, false, component.cells.len()).ok()?;
-    let table = first_table(alloc, &component, &out, slacks)?;
+    let table = first_table(alloc, &component, &out, purpose.slacks())?;
     Some(CompactSearch {
         component,
         out,
-        slacks,
+        purpose,
         table: Some(table),
     })
 }

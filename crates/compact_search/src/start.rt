@@ -2,7 +2,7 @@
 use crate::bounds::Bounds;
 use crate::component::Component;
 use crate::entry::Entry;
-use crate::row::Row;
+use crate::row::{Row, mask_of};
 use crate::table::{Slacks, Table};
 use crate::variable::{State, Variable};
 use std::alloc::Global;
@@ -59,15 +59,17 @@ fn slack(row: usize) -> Variable {
 }
 
 // The row of a slack by its relation's form.
-fn row_of(alloc: Global, form: &[Entry], basic: usize) -> Option<Row> {
+pub(crate) fn row_of(alloc: Global, form: &[Entry], basic: usize) -> Option<Row> {
     let mut entries = Vec::new(alloc);
     for entry in form {
         entries.push(*entry).ok()?;
     }
+    let mask = mask_of(&entries);
     Some(Row {
         basic,
         den: 1,
         value: 0,
         entries,
+        mask,
     })
 }

@@ -1,7 +1,7 @@
 // The walk of a question: steps until the objective reaches its target or the table is blocked.
 use crate::entering::{Entering, best_entering};
 use crate::entry::number_at;
-use crate::ratio::{Limit, first_limit};
+use crate::ratio::{Limit, crossed_by, first_limit};
 use crate::stepping::step_to;
 use crate::table::Table;
 use std::alloc::Global;
@@ -45,11 +45,12 @@ fn walk_once(alloc: Global, table: &mut Table, target: i128) -> Option<Option<En
         return Some(Some(End::Blocked));
     };
     let beyond = beyond_of(table, entering, lack)?;
-    let first = first_limit(alloc, table, entering)?;
+    let crossed = crossed_by(alloc, table, entering.variable)?;
+    let first = first_limit(alloc, table, entering, &crossed)?;
     let Some(limit) = unless_within(beyond, first) else {
         return Some(Some(End::Beyond(beyond)));
     };
-    step_to(alloc, table, entering, limit)?;
+    step_to(alloc, table, entering, limit, &crossed)?;
     Some(None)
 }
 
@@ -70,9 +71,11 @@ fn is_within(beyond: Beyond, limit: Limit) -> bool {
     }
 }
 
-// What the objective lacks, times its den.
+// What the objective lacks, times its den; the most that there is where that leaves 128 bits.
 fn lack_of(table: &Table, target: i128) -> Option<i128> {
-    let whole = target.checked_mul(i128::from(table.objective.den))?;
+    let Some(whole) = target.checked_mul(i128::from(table.objective.den)) else {
+        return Some(i128::MAX);
+    };
     whole.checked_sub(table.objective.value)
 }
 
@@ -80,8 +83,7 @@ fn lack_of(table: &Table, target: i128) -> Option<i128> {
 fn beyond_of(table: &Table, entering: Entering, lack: i128) -> Option<Beyond> {
     let number = number_at(&table.objective.entries, entering.variable);
     let each = i128::from(number.checked_abs()?);
-    let most = lack.checked_add(each)?.checked_sub(1)?;
-    let units = most.checked_div(each)?;
+    let units = lack.checked_sub(1)?.checked_div(each)?.checked_add(1)?;
     let by = if entering.rises {
         units
     } else {

@@ -1,6 +1,5 @@
 // The world of a table.
 use crate::divisor::wide_divisor_of;
-use crate::entry::number_at;
 use crate::table::Table;
 use crate::walk::Beyond;
 use sdc_base::Items;
@@ -15,24 +14,37 @@ pub(crate) fn world_of(
     numbers: &[u32],
     beyond: Option<Beyond>,
 ) -> Option<World> {
-    let den = common_den(table, numbers.len(), beyond)?;
+    let found = moves_of(alloc, table, numbers.len(), beyond)?;
+    let den = common_den(&found)?;
     let mut moves = Items::empty(alloc);
-    for (variable, cell) in numbers.iter().enumerate() {
-        let (num, own) = move_of(table, variable, beyond)?;
-        if num != 0 {
-            let by = num.checked_mul(den.checked_div(own)?)?;
+    for (cell, (num, own)) in numbers.iter().zip(found.iter()) {
+        if *num != 0 {
+            let by = num.checked_mul(den.checked_div(*own)?)?;
             moves.push(Move { cell: *cell, by }).ok()?;
         }
     }
     Some(World { den, moves })
 }
 
-// The least number of which all moves are whole multiples over.
-fn common_den(table: &Table, cells: usize, beyond: Option<Beyond>) -> Option<i128> {
-    let mut den: i128 = 1;
+// The moves of so many variables, each with its den.
+fn moves_of(
+    alloc: Global,
+    table: &Table,
+    cells: usize,
+    beyond: Option<Beyond>,
+) -> Option<Vec<(i128, i128)>> {
+    let mut moves = Vec::new(alloc);
     for variable in 0..cells {
-        let (_num, own) = move_of(table, variable, beyond)?;
-        den = common_multiple(den, own)?;
+        moves.push(move_of(table, variable, beyond)?).ok()?;
+    }
+    Some(moves)
+}
+
+// The least number of which all moves are whole multiples over.
+fn common_den(moves: &[(i128, i128)]) -> Option<i128> {
+    let mut den: i128 = 1;
+    for (_num, own) in moves {
+        den = common_multiple(den, *own)?;
     }
     Some(den)
 }
@@ -55,7 +67,7 @@ fn move_of(table: &Table, variable: usize, beyond: Option<Beyond>) -> Option<(i1
     }
     let row = table.rows.get(one.row)?;
     let more = match beyond {
-        Some(way) => i128::from(number_at(&row.entries, way.variable)).checked_mul(way.by)?,
+        Some(way) => i128::from(row.number_at(way.variable)).checked_mul(way.by)?,
         None => 0,
     };
     let num = row.value.checked_add(more)?;
@@ -63,6 +75,9 @@ fn move_of(table: &Table, variable: usize, beyond: Option<Beyond>) -> Option<(i1
         return Some((0, 1));
     }
     let den = i128::from(row.den);
+    if den == 1 {
+        return Some((num, 1));
+    }
     let common = wide_divisor_of(num, den)?;
     Some((num.checked_div(common)?, den.checked_div(common)?))
 }

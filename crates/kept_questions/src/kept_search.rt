@@ -1,7 +1,12 @@
-// The search over a component of the larger hidden set, and which of its cells are left out.
-use compact_search::CompactSearch;
-use sdc_base::{Cell, System, is_hidden};
+// A search over a component of hidden cells, and which of its cells are left out.
+use crate::scope::Scope;
+use compact_search::{CompactSearch, Found};
+use interval_audit::{Question, members_of, met_by};
 use std::alloc::Global;
+use worlds::Pattern;
+
+// The most exchanges of a question.
+const MOST_STEPS: u32 = 10_000;
 
 // What a search finds: worlds alone, or multipliers as well.
 #[derive(Clone, Copy)]
@@ -12,29 +17,27 @@ pub(crate) enum Finds {
 
 #[derive(Drop)]
 pub(crate) struct KeptSearch {
-    pub(crate) search: CompactSearch,
-    // The component's cells, and for each whether it is left out.
+    search: CompactSearch,
+    // The component's cells, ascending, and for each whether it is left out.
     members: Vec<u32>,
     out: Vec<bool>,
 }
 
-// A search over these cells and relations of a component of hidden cells, of which none is left out yet.
-pub(crate) fn kept_search(
+// A search over a cell's component, by the numbers of all cells' components, of which no cell is left out yet.
+pub(crate) fn search_over(
     alloc: Global,
-    system: &System,
-    cells: &[Cell],
-    members: Vec<u32>,
-    met: &[u32],
+    pattern: &Pattern<'_>,
+    of: &[Option<u32>],
+    cell: u32,
     finds: Finds,
 ) -> Option<KeptSearch> {
-    let mut flags = Vec::from_elem(alloc, false, cells.len()).ok()?;
-    for number in &members {
-        let slot = flags.get_mut(*number as usize)?;
-        *slot = true;
-    }
+    let system = pattern.system;
+    let members = members_of(alloc, of, cell, system.cells).ok()?;
+    let met = met_by(alloc, system.relations.as_slice(), of, cell).ok()?;
+    let flags = flags_of(alloc, &members, pattern.cells.len())?;
     let search = match finds {
-        Finds::Worlds => CompactSearch::for_worlds(alloc, system, cells, &flags, met)?,
-        Finds::Multipliers => CompactSearch::new(alloc, system, cells, &flags, met)?,
+        Finds::Worlds => CompactSearch::for_worlds(alloc, system, pattern.cells, &flags, &met)?,
+        Finds::Multipliers => CompactSearch::new(alloc, system, pattern.cells, &flags, &met)?,
     };
     let out = Vec::from_elem(alloc, false, members.len()).ok()?;
     Some(KeptSearch {
@@ -44,21 +47,81 @@ pub(crate) fn kept_search(
     })
 }
 
+// A flag for each of so many cells, set for these.
+fn flags_of(alloc: Global, members: &[u32], cells: usize) -> Option<Vec<bool>> {
+    let mut flags = Vec::from_elem(alloc, false, cells).ok()?;
+    for number in members {
+        let slot = flags.get_mut(*number as usize)?;
+        *slot = true;
+    }
+    Some(flags)
+}
+
 impl KeptSearch {
-    // Returns to the truths, leaves the cells out that aren't hidden, and takes those back that are.
-    pub(crate) fn fit(&mut self, alloc: Global, flags: &[bool]) -> Option<()> {
+    // A search for worlds alone over the same cells, with the equations of this one.
+    pub(crate) fn worlds_alone(&self, alloc: Global) -> Option<KeptSearch> {
+        Some(KeptSearch {
+            search: self.search.worlds_alone(alloc)?,
+            members: self.members.as_slice().to_vec(alloc).ok()?,
+            out: self.out.as_slice().to_vec(alloc).ok()?,
+        })
+    }
+
+    // Takes the equations over from a search over a component within this one.
+    pub(crate) fn take_over(&mut self, alloc: Global, smaller: &KeptSearch) -> Option<()> {
+        self.search.take_over(alloc, &smaller.search)
+    }
+
+    // The first of its cells.
+    pub(crate) fn first_cell(&self) -> Option<u32> {
+        Some(*self.members.first()?)
+    }
+
+    // The last of its cells that isn't within a scope.
+    pub(crate) fn last_outside(&self, scope: Scope<'_>) -> Option<u32> {
+        let mut last = None;
+        for cell in &self.members {
+            if !scope.has(*cell) {
+                last = Some(*cell);
+            }
+        }
+        last
+    }
+
+    // What a question comes to that may move the cells of a scope, from the truths. None where the search failed; it is
+    // of no use then.
+    fn find(
+        &mut self,
+        alloc: Global,
+        scope: Scope<'_>,
+        question: Question,
+    ) -> Option<Option<Found>> {
+        self.fit(alloc, scope)?;
+        Some(
+            self.search.ask(
+                alloc,
+                question.cell,
+                question.side,
+                question.target,
+                MOST_STEPS,
+            ),
+        )
+    }
+
+    // Returns to the truths, leaves the cells out that aren't within a scope, and takes those back that are.
+    fn fit(&mut self, alloc: Global, scope: Scope<'_>) -> Option<()> {
         self.search.return_to_truths();
         for place in 0..self.members.len() {
-            self.fit_one(alloc, flags, place)?;
+            self.fit_one(alloc, scope, place)?;
         }
         Some(())
     }
 
     // The same for the cell at a place.
-    fn fit_one(&mut self, alloc: Global, flags: &[bool], place: usize) -> Option<()> {
+    fn fit_one(&mut self, alloc: Global, scope: Scope<'_>, place: usize) -> Option<()> {
         let cell = *self.members.get(place)?;
         let slot = self.out.get_mut(place)?;
-        let leaves = !is_hidden(flags, cell as usize);
+        let leaves = !scope.has(cell);
         if leaves == *slot {
             return Some(());
         }
@@ -69,4 +132,17 @@ impl KeptSearch {
             self.search.take_back(cell)
         }
     }
+}
+
+// What a question comes to that is asked of a search, if there is one; after a failure there is none.
+pub(crate) fn find_in(
+    alloc: Global,
+    slot: &mut Option<KeptSearch>,
+    scope: Scope<'_>,
+    question: Question,
+) -> Option<Found> {
+    let mut kept = slot.take()?;
+    let found = kept.find(alloc, scope, question)?;
+    *slot = Some(kept);
+    found
 }

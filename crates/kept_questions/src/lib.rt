@@ -4,6 +4,7 @@
 
 mod answering;
 mod component;
+mod component_searches;
 mod exact;
 mod kept_answer;
 mod kept_search;
@@ -12,9 +13,11 @@ mod left_over;
 mod lists;
 mod pair;
 mod pair_read;
+mod primary_search;
 mod products;
 mod questions;
 mod reach_check;
+mod scope;
 mod sides;
 mod stop_check;
 mod terms;

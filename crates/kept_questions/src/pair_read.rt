@@ -1,8 +1,5 @@
 // What a search found, by the labels of the asked cell's component in the pattern.
-ghost use Rattle.std.specs.Prelude.{◌≡◌, true};
-ghost use Rattle.sdc_base.specs.HiddenSets.{is_hidden};
-
-use crate::component::{Component, component_of};
+use crate::component::Component;
 use crate::pair::MovePair;
 use crate::sides::place_after;
 use crate::unfit::Unfit;
@@ -20,18 +17,15 @@ struct Places {
     forms: Vec<Option<u32>>,
 }
 
-// The lists and weights of a search for the asked cell's component. What stands at other cells and relations is left
+// The lists and weights of a search for a component. What stands at other cells and relations is left
 // out.
 pub(crate) fn pair_of(
     alloc: Global,
     pattern: &Pattern<'_>,
-    asked: u32,
+    component: &Component,
     found: &MoveLists,
-) -> Result<MovePair, Unfit>
-    requires hidden { is_hidden pattern.now.hidden.now.flags asked ≡ true }
-{
-    let component = component_of(alloc, pattern, asked)?;
-    let places = places_of(alloc, pattern, &component)?;
+) -> Result<MovePair, Unfit> {
+    let places = places_of(alloc, pattern, component)?;
     let lists = lists_of(alloc, pattern.system.cells as usize, found, &places)?;
     let relations = pattern.system.relations.as_slice();
     let weights = weights_of(alloc, relations.len(), &found.weights)?;

@@ -11,7 +11,7 @@ ghost use Rattle.kept_questions.specs.KeptAnswers.{IsKeptStop};
 use crate::component::component_of;
 use crate::exact::product;
 use crate::lists::number_at;
-use crate::pair::{MovePair, check_pair};
+use crate::pair::check_pair;
 use crate::pair_read::pair_of;
 use crate::unfit::Unfit;
 use compact_search::MoveLists;
@@ -30,28 +30,26 @@ pub(crate) fn check_stop(
     ensures { HasNone pattern.now.system.now.relations → IfSome result (λ multipliers. IsKeptStop
         pattern.now.system.now pattern.now.cells.now pattern.now.hidden.now.flags question multipliers) }
 {
-    let Ok(pair) = pair_of(alloc, pattern, question.cell, found) else {
-        return None;
-    };
-    match stop_of(alloc, pattern, question, &pair) {
+    match stop_of(alloc, pattern, question, found) {
         Ok(multipliers) => Some(multipliers),
         Err(_) => None,
     }
 }
 
-// The multipliers of a question's answer, where lists of moves and weights of relations show that it stops short.
+// The same, or why they aren't given.
 fn stop_of(
     alloc: Global,
     pattern: &Pattern<'_>,
     question: Question,
-    pair: &MovePair,
+    found: &MoveLists,
 ) -> Result<Multipliers, Unfit>
     requires hidden { is_hidden pattern.now.hidden.now.flags question.cell ≡ true }
     ensures { HasNone pattern.now.system.now.relations → IfOk result (λ multipliers. IsKeptStop pattern.now.system.now
         pattern.now.cells.now pattern.now.hidden.now.flags question multipliers) }
 {
     let component = component_of(alloc, pattern, question.cell)?;
-    check_pair(alloc, pattern, &component, question, pair)?;
+    let pair = pair_of(alloc, pattern, &component, found)?;
+    check_pair(alloc, pattern, &component, question, &pair)?;
     let weights = pair.weights.as_slice();
     let terms = terms_of(alloc, weights, component.met.as_slice())?;
     let multipliers = lowest_multipliers(alloc, pair.q, terms.as_slice())?;

@@ -30,6 +30,19 @@ pub(crate) fn questions_about(
     Some(KeptQuestions::new(alloc, task.system.system(), task.cells, hidden))
 }
 
+// The same about these hidden cells, which are those of the kept questions and more.
+pub(crate) fn questions_about_more(
+    alloc: Global,
+    task: &Task<'_, '_>,
+    hidden: &Hidden,
+    kept: Option<KeptQuestions>,
+) -> Option<KeptQuestions> {
+    match kept {
+        Some(questions) => Some(questions.widen(alloc, task.system.system(), task.cells, hidden)),
+        None => questions_about(alloc, task, hidden),
+    }
+}
+
 // Whether a primary cell can be moved to a side by its level: asked of what is kept, or else of the walk.
 pub(crate) fn ask_level(
     alloc: Global,

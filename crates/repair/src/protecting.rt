@@ -70,8 +70,8 @@ use worlds::{Protected, Refuted};
 /// The rule is asked once for each cell without a price. There is a question for each primary cell and side and for
 /// each repair; for each hidden free cell one for each question that neither its kept world nor its last one serves
 /// with it shown; and at last at most one for each question. A repair goes once through the cells and the parts of the
-/// relations that have a multiplier, and begins new kept tables; a trial goes once through the moves of all kept and
-/// last worlds, and for each question that is to be asked of the walk through those of the worlds at hand.
+/// relations that have a multiplier, and once through the kept tables; a trial goes once through the moves of all kept
+/// and last worlds, and for each question that is to be asked of the walk through those of the worlds at hand.
 ///
 /// Repairs and needs are this project's own; the questions are those of the feasibility interval in Hundepool et al.,
 /// Statistical Disclosure Control, chapter on magnitude tables.

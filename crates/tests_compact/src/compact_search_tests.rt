@@ -204,6 +204,78 @@ fn worlds_alone_of_two_by_two(rt: HostRuntime) -> Result<(), Fail> {
     Ok(())
 }
 
+// A search for ends alone over a small system.
+fn end_search_of(alloc: Global, small: &Small) -> Option<CompactSearch> {
+    CompactSearch::for_ends(
+        alloc,
+        &small.system,
+        &small.cells,
+        small.hidden.flags.as_slice(),
+        &small.relations,
+    )
+}
+
+// What each search over two by two cells answers about the first of them.
+const BY_SEARCH: [(i128, bool, i128); 3] = [(30, true, 30), (31, false, 30), (FAR, false, 30)];
+
+// Whether a search moves the first cell of two by two up by 30 and no further.
+fn rises_by_thirty(alloc: Global, search: &mut CompactSearch, small: &Small) -> bool {
+    for (target, reached, num) in &BY_SEARCH {
+        let above = (4, Side::Above);
+        let got = asked_of(alloc, search, small, &small.hidden, above, *target);
+        if got != right(*reached, *num) {
+            return false;
+        }
+    }
+    true
+}
+
+// Whether a search for ends says so, and one for worlds with its equations finds a world just as far.
+fn ends_are_found(alloc: Global, small: &Small) -> bool {
+    let Some(mut ends) = end_search_of(alloc, small) else {
+        return false;
+    };
+    if !rises_by_thirty(alloc, &mut ends, small) {
+        return false;
+    }
+    let Some(mut worlds) = ends.worlds_alone(alloc) else {
+        return false;
+    };
+    let above = (4, Side::Above);
+    let found = asked_of(alloc, &mut worlds, small, &small.hidden, above, 30);
+    let none = asked_of(alloc, &mut worlds, small, &small.hidden, above, 31);
+    found == right(true, 30) && none.is_none()
+}
+
+// Whether a search says so that took the equations over from one without the last cell, where none can move.
+fn equations_are_taken_over(alloc: Global, small: &Small, fewer: &Small) -> bool {
+    let (Some(mut larger), Some(mut smaller)) = (search_of(alloc, small), search_of(alloc, fewer))
+    else {
+        return false;
+    };
+    let above = (4, Side::Above);
+    let none = asked_of(alloc, &mut smaller, fewer, &fewer.hidden, above, 6);
+    if none != right(false, 0) || larger.take_over(alloc, &smaller).is_none() {
+        return false;
+    }
+    rises_by_thirty(alloc, &mut larger, small)
+}
+
+#[test]
+fn searches_made_of_others(rt: HostRuntime) -> Result<(), Fail> {
+    let alloc = rt.alloc();
+    let truths = [140, 50, 90, 70, 20, 50, 70, 30, 40];
+    let small = make_small(alloc, &TWO_BY_TWO, &truths, &[4, 5, 7, 8])?;
+    let fewer = make_small(alloc, &TWO_BY_TWO, &truths, &[4, 5, 7])?;
+    let (Some(small), Some(fewer)) = (small, fewer) else {
+        assert!(rt; false);
+        return Ok(());
+    };
+    assert!(rt; ends_are_found(alloc, &small));
+    assert!(rt; equations_are_taken_over(alloc, &small, &fewer));
+    Ok(())
+}
+
 #[test]
 fn eight_cells_with_one_left_out(rt: HostRuntime) -> Result<(), Fail> {
     let alloc = rt.alloc();

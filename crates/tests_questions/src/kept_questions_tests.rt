@@ -260,3 +260,46 @@ fn multipliers_are_those_of_the_walk(rt: HostRuntime) -> Result<(), Fail> {
     }
     Ok(())
 }
+
+// The cells within but the last.
+const SEVEN: [u32; 7] = [13, 14, 16, 17, 22, 23, 25];
+
+// Whether questions about seven of the cells within are answered rightly once they are about all eight.
+fn is_right_once_wider(alloc: Global) -> Result<bool, Fail> {
+    let fewer = hidden_of(alloc, 27, SEVEN.as_slice())?;
+    let hidden = hidden_of(alloc, 27, CORNERS.as_slice())?;
+    let cells = cells_of(alloc, 6)?;
+    let Some(system) = table(alloc)? else {
+        return Ok(false);
+    };
+    let mut kept = KeptQuestions::new(alloc, &system, &cells, &fewer);
+    let before = (&system, cells.as_slice(), &fewer);
+    let answer = answer_of(alloc, &mut kept, before, Side::Above, 6);
+    if !matches!(&answer, Some(KeptAnswer::Stops(_))) {
+        return Ok(false);
+    }
+    let mut wider = kept.widen(alloc, &system, &cells, &hidden);
+    let asked = (&system, cells.as_slice(), &hidden);
+    let found = found_of(alloc, &mut wider, asked, Side::Above, 6);
+    Ok(has_moves(&found, TURNS[0].1) && is_stopped_like_the_walk(alloc, &mut wider, asked))
+}
+
+// Whether the first cell within is kept from rising by 11 by the walk's multipliers.
+fn is_stopped_like_the_walk(
+    alloc: Global,
+    kept: &mut KeptQuestions,
+    asked: (&System, &[Cell], &Hidden),
+) -> bool {
+    let answer = answer_of(alloc, kept, asked, Side::Above, 11);
+    let walked = walked_multipliers(alloc, asked, Side::Above, 11);
+    match (&answer, &walked) {
+        (Some(KeptAnswer::Stops(own)), Some(others)) => are_same(own, others),
+        _ => false,
+    }
+}
+
+#[test]
+fn wider_questions_go_on_from_narrower_ones(rt: HostRuntime) -> Result<(), Fail> {
+    assert!(rt; is_right_once_wider(rt.alloc())?);
+    Ok(())
+}

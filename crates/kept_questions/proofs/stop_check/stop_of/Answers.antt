@@ -13,7 +13,7 @@ use Rattle.kept_questions.proofs.stop_check.stop_of.Goals as goal
 
 pub lowest_multipliers-requires : goal.lowest_multipliers-requires
 lowest_multipliers-requires c =
-    let q : ℤ = c.args.pair.now.q in
+    let q : ℤ = c.in_ok-pair.pair.q in
     let q_fits : FitsSigned w128 q = search rules in
     record {
       positive = subst (λ (z : ℤ). pos 1 ≤ℤ z) (sym (to_z-of_z w128 q q_fits)) c.in_ok-check_pair.ensures.q_above;
@@ -23,7 +23,7 @@ lowest_multipliers-requires c =
 pub returns : goal.returns
 returns c = λ none.
     let pattern = c.args.pattern.now in
-    let pair = c.args.pair.now in
+    let pair = c.in_ok-pair.pair in
     let flags : List Bool = pattern.hidden.now.flags in
     let multipliers = c.in_ok-multipliers.multipliers in
     let group : Group = group_of c.in_ok-component.component.of c.args.question.cell in
