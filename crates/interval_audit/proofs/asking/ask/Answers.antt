@@ -1,4 +1,5 @@
-use Rattle.std.proofs.Common.{IfErr, subst}
+use Rattle.std.proofs.lemmas.Grind.{elements}
+use Rattle.std.proofs.Common.{IfErr, subst, arith}
 use Rattle.sdc_base.specs.declared.system.System.{System}
 use Rattle.interval_audit.specs.declared.answer.AskFault.{AskFault}
 use Rattle.interval_audit.specs.ProblemSizes.{IsAmpleForSize}
@@ -12,3 +13,6 @@ returns-clause-short c =
 pub returns-clause-size : goal.returns-clause-size
 returns-clause-size c =
     subst (λ (own : System). IsAmpleForSize own c.args.hidden.now.flags c.args.question c.args.limit → IfErr c.ask.result (λ (fault : AskFault). IsNotCutOff fault)) c.in_ok-signed.ensures c.ask.ensures.size
+
+pub returns-clause-made : goal.returns-clause-made
+returns-clause-made c = grind (arith, elements)

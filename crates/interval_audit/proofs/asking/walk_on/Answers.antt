@@ -1,3 +1,4 @@
+use Rattle.std.proofs.lemmas.Grind.{common_steps}
 use Rattle.std.proofs.Common.{◌≡◌, ◌∙◌, ◌≤◌, true, false, arith, sym, subst}
 use Rattle.tableau.specs.ProblemForm.{IsWellFormed}
 use Rattle.interval_audit.specs.declared.answer.Answer.{Answer}
@@ -40,3 +41,6 @@ returns-clause-made c =
     let most : c.walk.tableau.improved ≤ c.args.limit = omega (arith, c.walk.invariant.improved) in
     if_ok_more (λ (answer : Answer). IsReadOff c.args.inquiry.now.pattern.system.now c.args.inquiry.now.pattern.cells.now group c.walk.tableau answer) (λ (answer : Answer). IsWalkAnswerWithin c.args.inquiry.now.pattern.system.now c.args.inquiry.now.pattern.cells.now group c.args.inquiry.now.question c.args.limit answer)
     c.finish-2.result (λ answer own. (c.walk.tableau, c.read_state-2.ensures.walked, c.walk.invariant.problem, own, most)) c.finish-2.ensures.read
+
+pub returns-in-Wide-clause-cause : goal.returns-in-Wide-clause-cause
+returns-in-Wide-clause-cause c = grind (arith, common_steps)

@@ -1,3 +1,4 @@
+use Rattle.std.proofs.lemmas.Grind.{common_steps}
 use Rattle.std.proofs.Common.{ℕ, ◌+◌, ◌*◌, ◌++◌, ◌∷◌, [], List, get_or, ap, sym, ◌∙◌, arith, pos, neg_ℤ, FitsSigned, if◌then◌else◌}
 use Rattle.std.specs.Int.{w128}
 use Rattle.std.specs.Ordering.{int_eq}
@@ -17,3 +18,6 @@ members-preserved c = λ group n terms is are.
     pushed
     ∙ ap (λ (done : List Term). done ++ (if int_eq k (pos 0) then [] else (2 * c.members.place, k) ∷ (2 * c.members.place + 1, neg_ℤ k) ∷ [])) (c.members.invariant group n terms is are)
     ∙ sym (entries_next group n terms c.args.members.now c.members.place k is c.members-test.true (are cell))
+
+pub returns : goal.returns
+returns c = grind (arith, common_steps)

@@ -1,4 +1,5 @@
-use Rattle.std.proofs.Common.{◌≡◌, ◌∙◌, List, subst, rules, ℤ, FitsSigned}
+use Rattle.std.proofs.lemmas.Grind.{elements}
+use Rattle.std.proofs.Common.{◌≡◌, ◌∙◌, List, subst, rules, ℤ, FitsSigned, arith}
 use Rattle.std.specs.Int.{w128}
 use Rattle.std.proofs.lemmas.Int.{to_z-of_z}
 use Rattle.sdc_base.specs.Systems.{Numbers, number_at}
@@ -29,3 +30,6 @@ returns-clause-world c =
     (subst (λ xs. AreLowestTermsOf c.den.result (nonzero_terms moves xs) world.den (terms_of world.moves)) list
     (subst (λ (vs : List ℤ). AreLowestTermsOf c.den.result (nonzero_terms (moves_of group (number_at vs)) c.as_slice.result.now) world.den (terms_of world.moves)) values is)))
     told
+
+pub read_world-requires-clause-from_zero : goal.read_world-requires-clause-from_zero
+read_world-requires-clause-from_zero c = grind (arith, elements)

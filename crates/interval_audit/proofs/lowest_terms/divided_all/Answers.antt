@@ -1,4 +1,5 @@
-use Rattle.std.proofs.Common.{◌≡◌, ◌∙◌, ◌+◌, ◌++◌, ◌∷◌, [], take, get_or, ap, sym, subst, rules, ℤ, pos, neg_ℤ, ◌<ℤ◌, ◌^◌, All, FitsSigned, unsigned_abs}
+use Rattle.std.proofs.lemmas.Grind.{common_steps}
+use Rattle.std.proofs.Common.{◌≡◌, ◌∙◌, ◌+◌, ◌++◌, ◌∷◌, [], take, get_or, ap, sym, subst, rules, ℤ, pos, neg_ℤ, ◌<ℤ◌, ◌^◌, All, FitsSigned, unsigned_abs, arith}
 use Prim.Native.Nat.{◌∣◌}
 use Rattle.std.specs.Int.{w128}
 use Rattle.std.proofs.lemmas.Int.{to_z-of_z}
@@ -28,3 +29,6 @@ terms-preserved c =
       each = next ∙ ap (times_each (pos c.args.by)) (sym pushed);
       held = subst (λ ts. All (λ (t : Term). neg_ℤ (pos (2 ^ 127)) <ℤ t.1) ts) (sym pushed) (All-push (λ (t : Term). neg_ℤ (pos (2 ^ 127)) <ℤ t.1) c.terms.less.items (term.0, c.quotient_of-part.result) c.terms.invariant.held above);
     }
+
+pub returns-clause-each : goal.returns-clause-each
+returns-clause-each c = grind (arith, common_steps)

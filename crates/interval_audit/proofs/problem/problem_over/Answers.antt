@@ -1,4 +1,5 @@
-use Rattle.std.proofs.Common.{◌≡◌, ◌∙◌, ◌*◌, ◌<◌, ℕ, List, All, length, ap, sym, subst, rules, FitsSigned, to_z, of_z}
+use Rattle.std.proofs.lemmas.Grind.{common_steps}
+use Rattle.std.proofs.Common.{◌≡◌, ◌∙◌, ◌*◌, ◌<◌, ℕ, List, All, length, ap, sym, subst, rules, FitsSigned, to_z, of_z, arith}
 use Rattle.std.specs.Int.{w128}
 use Rattle.std.proofs.lemmas.Int.{to_z-of_z}
 use Rattle.interval_audit.specs.Groups.{Group, group_of, members}
@@ -44,3 +45,6 @@ returns c =
     let rows = c.new.ensures ∙ whole_rows c.args.system.now c.args.cells.now group c.as_slice-list.result.now c.new-rows.result.items c.push_all_caps.new.rows.items c.push_all_forms.new.rows.items list c.new-rows.ensures.items caps forms in
     same_problem (2 * length c.as_slice-list.result.now) (2 * length (members group c.args.system.now.cells)) c.new.result (rows_of c.args.system.now c.args.cells.now group) c.new-2.result (entries_of group c.args.system.now.cells (asked_move c.args.question.cell c.args.question.side)) (to_z w128 (of_z w128 c.args.question.target)) c.args.question.target
     (ap (λ (xs : List ℕ). 2 * length xs) list) rows (c.new-2.ensures ∙ objective) (to_z-of_z w128 c.args.question.target target)
+
+pub push_all_forms-requires-clause-zeros : goal.push_all_forms-requires-clause-zeros
+push_all_forms-requires-clause-zeros c = grind (arith, common_steps)
