@@ -1,3 +1,4 @@
+use Rattle.std.proofs.lemmas.Grind.{common_steps}
 use Rattle.std.proofs.Common.{◌≡◌, pos, ◌*ℤ◌, ◌^◌, FitsSigned, to_z, of_z, arith}
 use Rattle.std.specs.Int.{w128}
 use Rattle.std.proofs.lemmas.Int.{ints, to_z-of_z}
@@ -14,3 +15,6 @@ returns c =
     let is : to_z w128 (of_z w128 (to_z w128 (of_z w128 c.from.result) *ℤ to_z w128 (of_z w128 c.args.amount))) ≡ pos c.args.percent *ℤ c.args.amount =
     rw c.from.ensures (simp to_z-of_z) in
     record { value = is; low = rw is (omega (arith, ints, low)); high = rw is (omega (arith, ints, high)) }
+
+pub overflow_mul-result : goal.overflow_mul-result
+overflow_mul-result c = grind (arith, common_steps)
