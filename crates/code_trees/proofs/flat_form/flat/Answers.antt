@@ -1,3 +1,4 @@
+use Rattle.std.proofs.lemmas.Grind.{common_steps}
 use Rattle.std.proofs.Common.{◌≡◌, ℕ, ◌+◌, ◌-◌, List, ◌∷◌, take, length, slice_get, Option, Some, refl, ap, sym, ◌∙◌, subst, arith}
 use Rattle.std.proofs.lemmas.Option.{slice_get_read}
 use Rattle.std.proofs.lemmas.Result.{err_from_is_err_and}
@@ -34,3 +35,12 @@ codes-preserved c =
           ∙ ap (flat_tree c.args.total.now) (sym (take-at all c.codes.i c.index-codes-i.result at));
       rest = c.codes.invariant.rest ∙ flat-next c.args.total.now all c.codes.i c.index-codes-i.result at (sym same ∙ c.in_ok-add.ensures.told);
     }
+
+pub overflow_cast-i : goal.overflow_cast-i
+overflow_cast-i c = grind (arith, common_steps)
+
+pub overflow_add-i : goal.overflow_add-i
+overflow_add-i c = grind (arith, common_steps)
+
+pub returns-clause-exact : goal.returns-clause-exact
+returns-clause-exact c = grind (arith, common_steps)

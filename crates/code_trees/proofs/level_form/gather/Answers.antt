@@ -1,4 +1,5 @@
-use Rattle.std.proofs.Common.{◌≡◌, ℕ, ◌+◌, List, [], ◌∷◌, ◌++◌, length, drop, slice_get, Option, Some, refl, ap, sym, ◌∙◌}
+use Rattle.std.proofs.lemmas.Grind.{common_steps}
+use Rattle.std.proofs.Common.{◌≡◌, ℕ, ◌+◌, List, [], ◌∷◌, ◌++◌, length, drop, slice_get, Option, Some, refl, ap, sym, ◌∙◌, arith}
 use Rattle.std.proofs.lemmas.Option.{slice_get_read}
 use Rattle.sdc_base.specs.Trees.{codes}
 use Rattle.code_trees.specs.Faults.{or_else}
@@ -34,3 +35,12 @@ codes-preserved c =
           ∙ ap (λ (s : List (List ℕ)). first_level_fault total bounds (length c.take_code.new.seen + 1) s (with_prefixes bounds keys code) rest) (sym step.seen)
           ∙ ap (λ (k : List (List ℕ)). first_level_fault total bounds (length c.take_code.new.seen + 1) (codes c.take_code.new.seen) k rest) (sym step.kept);
     }
+
+pub returns-in_err-take_code-clause-told : goal.returns-in_err-take_code-clause-told
+returns-in_err-take_code-clause-told c = grind (arith, common_steps)
+
+pub returns-clause-told : goal.returns-clause-told
+returns-clause-told c = grind (arith, common_steps)
+
+pub returns-clause-kept : goal.returns-clause-kept
+returns-clause-kept c = grind (arith, common_steps)

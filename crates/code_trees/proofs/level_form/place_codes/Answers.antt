@@ -1,3 +1,4 @@
+use Rattle.std.proofs.lemmas.Grind.{common_steps}
 use Rattle.std.proofs.Common.{◌≡◌, ℕ, suc, ◌+◌, List, [], ◌∷◌, ◌++◌, drop, length, slice_get, slice_index, get_or, Option, None, Some, refl, ap, sym, ◌∙◌, subst, arith, length-take, add-one}
 use Rattle.std.proofs.lemmas.Option.{slice_get_read, get_or_from_slice_get, slice_get-get_or}
 use Rattle.sdc_base.specs.Trees.{Tree, codes, find}
@@ -65,3 +66,6 @@ codes-preserved c =
           ∙ ap (λ (o : Option ℕ). tree_of_codes total bounds (tree ++ (code, o) ∷ []) (drop (i + 1) all)) (parent-next tree path (last_chain total bounds all i) total bounds code c.codes.invariant.tree.distinct c.codes.invariant.held next)
           ∙ ap (λ (t : Tree). tree_of_codes total bounds t (drop (i + 1) all)) (sym nodes);
     }
+
+pub returns-clause-nodes : goal.returns-clause-nodes
+returns-clause-nodes c = grind (arith, common_steps)
