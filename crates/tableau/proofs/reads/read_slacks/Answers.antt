@@ -1,3 +1,4 @@
+use Rattle.std.proofs.lemmas.Grind.{common_steps, elements}
 use Rattle.std.proofs.Common.{◌≡◌, ℕ, ℤ, List, ◌+◌, ◌-◌, ◌<◌, length, slice_index, pos, sym, subst, ◌∙◌, arith, rules, FitsSigned, to_z, of_z}
 use Rattle.std.specs.Int.{w128}
 use Rattle.std.proofs.lemmas.Int.{to_z-of_z}
@@ -49,3 +50,9 @@ returns c =
     (λ i inside is. number_found c.args.problem.now t i (columns + v) c.requires.kept inside is)
     (λ none. sym (no_number t.others t.objective (columns + v) none))
     l.invariant)
+
+pub loop-slack-preserved : goal.loop-slack-preserved
+loop-slack-preserved c = grind (arith, common_steps)
+
+pub bounds-slacks-name : goal.bounds-slacks-name
+bounds-slacks-name c = grind (arith, elements)

@@ -1,4 +1,5 @@
-use Rattle.std.proofs.Common.{◌≡◌, ◌≤◌, Err, refl, sym, subst, ◌∙◌, ap, true, length}
+use Rattle.std.proofs.lemmas.Grind.{common_steps}
+use Rattle.std.proofs.Common.{◌≡◌, ◌≤◌, Err, refl, sym, subst, ◌∙◌, ap, true, length, arith}
 use Rattle.tableau.specs.declared.sparse_table.SparseTable.{SparseTable}
 use Rattle.tableau.specs.Tables.{Table}
 use Rattle.tableau.specs.SparseTables.{table_of}
@@ -61,3 +62,6 @@ returns-in-Ok-exchange-clause-kept c =
     let can = can_improve c.args.problem.now (table_of c.args.table.now) c.in-Some.column c.requires.well_formed c.requires.kept not_reached c.in-Some.ensures.enters in
     step_keeps_posed c.args.problem.now (table_of c.args.table.now) (table_of c.exchange.new.table) c.requires.well_formed c.requires.kept
     (c.in-Some-leaving_row.row, c.in-Some.column, reduced.0, record { below = can.0; enters = c.in-Some.ensures.enters; leaves = c.in-Some-leaving_row.ensures.leaves; reduced = reduced.1 })
+
+pub returns-clause-kept : goal.returns-clause-kept
+returns-clause-kept c = grind (arith, common_steps)

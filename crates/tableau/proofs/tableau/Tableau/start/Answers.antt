@@ -1,3 +1,4 @@
+use Rattle.std.proofs.lemmas.Grind.{common_steps}
 use Rattle.std.proofs.Common.{◌≡◌, ◌∷◌, [], length, length-append, ap, ◌∙◌, arith}
 use Rattle.tableau.specs.Problems.{target_row}
 use Rattle.tableau.specs.Tables.{Table}
@@ -25,3 +26,6 @@ invariant_of-result c =
         slacks_are = taken_back c.in_ok-slacks.slacks.len c.read_slacks.new.slacks c.in_ok-slacks.slacks.items slacks_long ∙ c.read_slacks.ensures;
       },
     )
+
+pub read_slacks-requires-clause-long : goal.read_slacks-requires-clause-long
+read_slacks-requires-clause-long c = grind (arith, common_steps)
