@@ -1,5 +1,5 @@
 use Rattle.std.proofs.lemmas.Grind.{elements}
-use Rattle.std.proofs.Common.{IfErr, subst, arith}
+use Rattle.std.proofs.Common.{IfErr, subst, arith, rules}
 use Rattle.sdc_base.specs.declared.system.System.{System}
 use Rattle.interval_audit.specs.declared.answer.AskFault.{AskFault}
 use Rattle.interval_audit.specs.ProblemSizes.{IsAmpleForSize}
@@ -16,3 +16,6 @@ returns-clause-size c =
 
 pub returns-clause-made : goal.returns-clause-made
 returns-clause-made c = grind (arith, elements)
+
+pub returns-clause-right : goal.returns-clause-right
+returns-clause-right c = search rules

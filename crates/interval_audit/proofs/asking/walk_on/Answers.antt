@@ -1,5 +1,5 @@
 use Rattle.std.proofs.lemmas.Grind.{common_steps}
-use Rattle.std.proofs.Common.{◌≡◌, ◌∙◌, ◌≤◌, true, false, arith, sym, subst}
+use Rattle.std.proofs.Common.{◌≡◌, ◌∙◌, ◌≤◌, true, false, arith, sym, subst, rules}
 use Rattle.tableau.specs.ProblemForm.{IsWellFormed}
 use Rattle.interval_audit.specs.declared.answer.Answer.{Answer}
 use Rattle.interval_audit.specs.Answers.{IsReadOff, IsWalkAnswerIn}
@@ -44,3 +44,27 @@ returns-clause-made c =
 
 pub returns-in-Wide-clause-cause : goal.returns-in-Wide-clause-cause
 returns-in-Wide-clause-cause c = grind (arith, common_steps)
+
+pub finish-requires-clause-ended : goal.finish-requires-clause-ended
+finish-requires-clause-ended c = search rules
+
+pub returns-in-Reached-clause-read : goal.returns-in-Reached-clause-read
+returns-in-Reached-clause-read c = search rules
+
+pub returns-in-Reached-clause-cause : goal.returns-in-Reached-clause-cause
+returns-in-Reached-clause-cause c = search rules
+
+pub returns-in-Reached-clause-made : goal.returns-in-Reached-clause-made
+returns-in-Reached-clause-made c = search rules
+
+pub returns-in-Reached-clause-within : goal.returns-in-Reached-clause-within
+returns-in-Reached-clause-within c = search rules
+
+pub returns-in-Reached-clause-short : goal.returns-in-Reached-clause-short
+returns-in-Reached-clause-short c = search rules
+
+pub returns-clause-cause : goal.returns-clause-cause
+returns-clause-cause c = search rules
+
+pub returns-clause-within : goal.returns-clause-within
+returns-clause-within c = search rules
