@@ -1,4 +1,5 @@
-use Rattle.std.proofs.Common.{◌≡◌, ◌∙◌, ◌+◌, sym, subst, FitsSigned, rules}
+use Rattle.std.proofs.lemmas.Grind.{elements}
+use Rattle.std.proofs.Common.{◌≡◌, ◌∙◌, ◌+◌, sym, subst, FitsSigned, rules, arith}
 use Rattle.std.specs.Int.{w128}
 use Rattle.std.proofs.lemmas.Int.{to_z-of_z}
 use Rattle.sdc_base.specs.Systems.{number_at}
@@ -21,3 +22,6 @@ loop-number-preserved c =
           subst (IsBestBelow c.args.cells.now c.args.prices.now c.args.flags.now (number_at c.args.counts.now) (c.loop-number.number + 1)) (sym w.best-is)
           (best_stays c.args.cells.now c.args.prices.now c.args.flags.now (number_at c.args.counts.now) c.loop-number.number c.loop-number.best (own ∙ w.if-is_breaking.false) c.loop-number.invariant)
     ]
+
+pub returns-clause-cheapest : goal.returns-clause-cheapest
+returns-clause-cheapest c = grind (arith, elements)

@@ -1,4 +1,4 @@
-use Rattle.std.proofs.Common.{◌<◌, ◌++◌, ◌∷◌, [], ℕ, ◌∙◌, ap, refl, sym, subst, length, length-set, true, List, Bool, arith}
+use Rattle.std.proofs.Common.{◌<◌, ◌++◌, ◌∷◌, [], ℕ, ◌∙◌, ap, refl, sym, subst, length, length-set, true, List, Bool, arith, rules}
 use Rattle.sdc_base.specs.HiddenSets.{IsPermitted}
 use Rattle.sdc_base.specs.declared.side.Side.{Side}
 use Rattle.worlds.specs.ProtectFaults.{asked_of}
@@ -68,3 +68,9 @@ returns-in_ok-repair-in-Some-clause-ok c =
           (served_more task flags (hide flags c.in-Some.subject) _ c.args.progress.now.worlds (within_hide flags c.in-Some.subject within) c.requires.served)),
       subst (λ (f : List Bool). shown_count f < shown_count flags) (sym c.in_ok-repair-in-Some.ensures.ok_flags) (fewer_shown flags c.in-Some.subject within own.shown),
     )
+
+pub returns-in_err-repair-in-Some-clause-ready : goal.returns-in_err-repair-in-Some-clause-ready
+returns-in_err-repair-in-Some-clause-ready c = search rules
+
+pub returns-in_err-repair-in-Some-clause-repaired : goal.returns-in_err-repair-in-Some-clause-repaired
+returns-in_err-repair-in-Some-clause-repaired c = search rules

@@ -1,4 +1,5 @@
-use Rattle.std.proofs.Common.{◌≡◌, ◌==◌, ◌∙◌, [], ◌+◌, false, ℕ, List, Bool, length, ap, sym, subst, arith, refl}
+use Rattle.std.proofs.lemmas.Grind.{common_steps}
+use Rattle.std.proofs.Common.{◌≡◌, ◌==◌, ◌∙◌, [], ◌+◌, false, ℕ, List, Bool, length, ap, sym, subst, arith, refl, rules}
 use Rattle.std.proofs.lemmas.List.Elements.{All-nil}
 use Rattle.worlds.specs.declared.refuted.Refuted.{Refuted}
 use Rattle.worlds.specs.ProtectFaults.{asked_of}
@@ -96,3 +97,9 @@ returns-clause-answers c =
     subst (λ n. AreTrialAnswers task (hide_subjects planned repairs) n flags c.cells.tried.spares.items) last
     (subst (λ (l : List Bool). AreTrialAnswers task l c.cells.number flags c.cells.tried.spares.items) is.is_repaired.hidden_is c.cells.invariant.tried.answers) in
     stays planned repairs worlds spares) c.renew_all.ensures.answers
+
+pub cells-preserved : goal.cells-preserved
+cells-preserved c = search rules
+
+pub returns-then-is_empty-clause-served : goal.returns-then-is_empty-clause-served
+returns-then-is_empty-clause-served c = grind (arith, common_steps)

@@ -1,4 +1,5 @@
-use Rattle.std.proofs.Common.{◌≡◌, ◌<◌, ◌+◌, ◌++◌, ◌∷◌, [], ◌∙◌, ℕ, List, Bool, true, length, ap, sym, subst, arith, None, Some}
+use Rattle.std.proofs.lemmas.Grind.{common_steps, elements}
+use Rattle.std.proofs.Common.{◌≡◌, ◌<◌, ◌+◌, ◌++◌, ◌∷◌, [], ◌∙◌, ℕ, List, Bool, true, length, ap, sym, subst, arith, None, Some, rules}
 use Rattle.std.proofs.lemmas.Result.{err_from_is_err_and}
 use Rattle.std.proofs.lemmas.Option.{slice_get_within}
 use Rattle.worlds.specs.declared.refuted.Refuted.{Refuted}
@@ -103,3 +104,12 @@ returns-in-Some-clause-ok c =
           (one_needed task larger c.args.cell flags c.args.tried.now.needs c.args.tried.now.shown c.in-Some.need inside c.requires.hidden c.requires.is_free told.0 refuted before.are_tried)));
       answers = subst (λ spares. AreTrialAnswers task larger (c.args.cell + 1) c.put_back.new.progress.hidden.flags spares.items) (sym c.put_back.ensures.spares) again;
     })
+
+pub set-requires : goal.set-requires
+set-requires c = grind (arith, elements)
+
+pub put_back-requires : goal.put_back-requires
+put_back-requires c = grind (arith, common_steps)
+
+pub returns-in-Some-clause-err : goal.returns-in-Some-clause-err
+returns-in-Some-clause-err c = search rules
