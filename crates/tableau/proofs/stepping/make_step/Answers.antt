@@ -1,5 +1,5 @@
 use Rattle.std.proofs.lemmas.Grind.{common_steps}
-use Rattle.std.proofs.Common.{◌≡◌, ◌≤◌, Err, refl, sym, subst, ◌∙◌, ap, true, length, arith}
+use Rattle.std.proofs.Common.{◌≡◌, ◌≤◌, Err, refl, sym, subst, ◌∙◌, ap, true, length, arith, rules}
 use Rattle.tableau.specs.declared.sparse_table.SparseTable.{SparseTable}
 use Rattle.tableau.specs.Tables.{Table}
 use Rattle.tableau.specs.SparseTables.{table_of}
@@ -65,3 +65,9 @@ returns-in-Ok-exchange-clause-kept c =
 
 pub returns-clause-kept : goal.returns-clause-kept
 returns-clause-kept c = grind (arith, common_steps)
+
+pub returns-in-Ok-exchange-clause-blocked : goal.returns-in-Ok-exchange-clause-blocked
+returns-in-Ok-exchange-clause-blocked c = search rules
+
+pub returns-clause-blocked : goal.returns-clause-blocked
+returns-clause-blocked c = search rules
