@@ -1,5 +1,5 @@
 // The searches over one component, each made once it is asked.
-use crate::kept_search::{Finds, KeptSearch, find_in, search_over};
+use crate::kept_search::{Finds, KeptSearch, SystemCells, find_in, search_over};
 use crate::scope::Scope;
 use compact_search::Found;
 use interval_audit::Question;
@@ -46,7 +46,8 @@ impl ComponentSearches {
     ) -> Option<Found> {
         let scope = Scope::of(pattern);
         if self.worlds.is_none() {
-            self.worlds = self.new_worlds(alloc, pattern, of, question.cell);
+            let given = SystemCells::of(pattern);
+            self.worlds = self.new_worlds(alloc, given, of, question.cell);
         }
         if let Some(found) = self.find_early(alloc, scope, question) {
             return Some(found);
@@ -55,8 +56,9 @@ impl ComponentSearches {
             return Some(found);
         }
         if self.multipliers.is_none() {
+            let given = SystemCells::of(pattern);
             let cell = question.cell;
-            self.multipliers = search_over(alloc, pattern, of, cell, Finds::Multipliers);
+            self.multipliers = search_over(alloc, given, of, cell, Finds::Multipliers);
         }
         find_in(alloc, &mut self.multipliers, scope, question)
     }
@@ -65,13 +67,13 @@ impl ComponentSearches {
     fn new_worlds(
         &self,
         alloc: Global,
-        pattern: &Pattern<'_>,
+        given: SystemCells<'_>,
         of: &[Option<u32>],
         cell: u32,
     ) -> Option<KeptSearch> {
         match &self.multipliers {
             Some(kept) => kept.worlds_alone(alloc),
-            None => search_over(alloc, pattern, of, cell, Finds::Worlds),
+            None => search_over(alloc, given, of, cell, Finds::Worlds),
         }
     }
 
@@ -90,14 +92,14 @@ impl ComponentSearches {
     pub(crate) fn take_over(
         &mut self,
         alloc: Global,
-        pattern: &Pattern<'_>,
+        given: SystemCells<'_>,
         of: &[Option<u32>],
         smaller: &ComponentSearches,
     ) -> Option<()> {
         let kept = smaller.multipliers.as_ref()?;
         if self.multipliers.is_none() {
             let cell = kept.first_cell()?;
-            self.multipliers = search_over(alloc, pattern, of, cell, Finds::Multipliers);
+            self.multipliers = search_over(alloc, given, of, cell, Finds::Multipliers);
         }
         self.multipliers.as_mut()?.take_over(alloc, kept)
     }

@@ -2,6 +2,7 @@
 use crate::scope::Scope;
 use compact_search::{CompactSearch, Found};
 use interval_audit::{Question, members_of, met_by};
+use sdc_base::{Cell, System};
 use std::alloc::Global;
 use worlds::Pattern;
 
@@ -15,6 +16,23 @@ pub(crate) enum Finds {
     Multipliers,
 }
 
+// A system and its cells.
+#[derive(Clone, Copy)]
+pub(crate) struct SystemCells<'a> {
+    pub(crate) system: &'a System,
+    pub(crate) cells: &'a [Cell],
+}
+
+impl<'a> SystemCells<'a> {
+    // Those of a pattern.
+    pub(crate) fn of(pattern: &Pattern<'a>) -> SystemCells<'a> {
+        SystemCells {
+            system: pattern.system,
+            cells: pattern.cells,
+        }
+    }
+}
+
 #[derive(Drop)]
 pub(crate) struct KeptSearch {
     search: CompactSearch,
@@ -26,18 +44,18 @@ pub(crate) struct KeptSearch {
 // A search over a cell's component, by the numbers of all cells' components, of which no cell is left out yet.
 pub(crate) fn search_over(
     alloc: Global,
-    pattern: &Pattern<'_>,
+    given: SystemCells<'_>,
     of: &[Option<u32>],
     cell: u32,
     finds: Finds,
 ) -> Option<KeptSearch> {
-    let system = pattern.system;
+    let system = given.system;
     let members = members_of(alloc, of, cell, system.cells).ok()?;
     let met = met_by(alloc, system.relations.as_slice(), of, cell).ok()?;
-    let flags = flags_of(alloc, &members, pattern.cells.len())?;
+    let flags = flags_of(alloc, &members, given.cells.len())?;
     let search = match finds {
-        Finds::Worlds => CompactSearch::for_worlds(alloc, system, pattern.cells, &flags, &met)?,
-        Finds::Multipliers => CompactSearch::new(alloc, system, pattern.cells, &flags, &met)?,
+        Finds::Worlds => CompactSearch::for_worlds(alloc, system, given.cells, &flags, &met)?,
+        Finds::Multipliers => CompactSearch::new(alloc, system, given.cells, &flags, &met)?,
     };
     let out = Vec::from_elem(alloc, false, members.len()).ok()?;
     Some(KeptSearch {

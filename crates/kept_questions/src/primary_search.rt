@@ -1,6 +1,6 @@
 // The searches over the primary cells alone, which are asked first: a world that moves no other cell serves whichever of
 // the others are shown later.
-use crate::kept_search::{Finds, KeptSearch, find_in, search_over};
+use crate::kept_search::{Finds, KeptSearch, SystemCells, find_in, search_over};
 use crate::scope::Scope;
 use compact_search::Found;
 use interval_audit::Question;
@@ -66,7 +66,8 @@ impl PrimarySearch {
         let number = (*self.of.get(question.cell as usize)?)?;
         let slot = self.searches.get_mut(number as usize)?;
         if slot.is_none() {
-            *slot = search_over(alloc, pattern, &self.of, question.cell, Finds::Worlds);
+            let given = SystemCells::of(pattern);
+            *slot = search_over(alloc, given, &self.of, question.cell, Finds::Worlds);
         }
         find_in(alloc, slot, Scope::of(pattern), question)
     }

@@ -10,6 +10,7 @@ ghost use Rattle.kept_questions.specs.declared.kept_answer.KeptAnswer.TheVariant
 
 use crate::component_searches::ComponentSearches;
 use crate::kept_answer::KeptAnswer;
+use crate::kept_search::SystemCells;
 use crate::primary_search::PrimarySearch;
 use crate::reach_check::check_reach;
 use crate::stop_check::check_stop;
@@ -58,13 +59,9 @@ impl KeptQuestions {
     ) -> KeptQuestions {
         let mut wider = unasked(alloc, system, hidden);
         wider.primary = self.primary;
-        let pattern = Pattern {
-            system,
-            cells,
-            hidden,
-        };
+        let given = SystemCells { system, cells };
         let sizes = self.sizes;
-        wider.carry_all(alloc, &pattern, self.searches, &sizes);
+        wider.carry_all(alloc, given, self.searches, &sizes);
         wider
     }
 
@@ -143,12 +140,12 @@ impl KeptQuestions {
     fn carry_all(
         &mut self,
         alloc: Global,
-        pattern: &Pattern<'_>,
+        given: SystemCells<'_>,
         searches: Vec<ComponentSearches>,
         sizes: &[u32],
     ) {
         for (smaller, size) in searches.into_iter().zip(sizes.iter()) {
-            let _carried = self.carry(alloc, pattern, smaller, *size);
+            let _carried = self.carry(alloc, given, smaller, *size);
         }
     }
 
@@ -156,7 +153,7 @@ impl KeptQuestions {
     fn carry(
         &mut self,
         alloc: Global,
-        pattern: &Pattern<'_>,
+        given: SystemCells<'_>,
         smaller: ComponentSearches,
         size: u32,
     ) -> Option<()> {
@@ -167,7 +164,7 @@ impl KeptQuestions {
             *searches = smaller;
             return Some(());
         }
-        searches.take_over(alloc, pattern, &self.of, &smaller)
+        searches.take_over(alloc, given, &self.of, &smaller)
     }
 }
 
