@@ -6,7 +6,7 @@ use Rattle.apriori.specs.declared.prior.Prior.{Prior}
 use Rattle.apriori.specs.declared.statement.Form.{Form}
 use Rattle.apriori.specs.declared.faults.PriorError.{PriorError}
 use Rattle.apriori.specs.declared.faults.PriorError.TheVariants as prior_error
-use Rattle.apriori.specs.Faults.{fault_of}
+use Rattle.apriori.specs.Faults.{prior_fault_of}
 use Rattle.apriori.specs.Applying.{at_line}
 use Rattle.apriori.specs.Noting.{line_noted, lines_noted}
 
@@ -16,7 +16,7 @@ unfolding lines_noted
 lines_next basis form before line given priors next texts after text is number same noted = rw (same, is, ← number, noted) refl
 
 pub lines_stop : (e : PriorError) (basis : Basis) (form : Form) (before line : ℕ) (priors : List Prior) (texts after : List (List ℕ)) (text : List ℕ) → texts ≡ text ∷ after → line ≡ before + 1
-    → Fails (fault_of e) (at_line form.table line (line_noted basis form line text priors)) → Fails (fault_of e) (lines_noted basis form before texts priors)
+    → Fails (prior_fault_of e) (at_line form.table line (line_noted basis form line text priors)) → Fails (prior_fault_of e) (lines_noted basis form before texts priors)
 unfolding lines_noted
 lines_stop prior_error.Memory basis form before line priors texts after text is number noted = tt
 lines_stop (prior_error.At table at why) basis form before line priors texts after text is number noted = rw (is, ← number, noted) refl

@@ -10,9 +10,9 @@ abbrev pub LineOf : Type 0
 LineOf = ℕ × ℕ
 
 -- the fault of an error, behind its line
-abbrev pub fault_of : PriorError → Option (LineOf × PriorWhy)
-fault_of prior_error.Memory = None
-fault_of (prior_error.At table line why) = Some ((table, line), why)
+abbrev pub prior_fault_of : PriorError → Option (LineOf × PriorWhy)
+prior_fault_of prior_error.Memory = None
+prior_fault_of (prior_error.At table line why) = Some ((table, line), why)
 
 -- what is wrong with a line, whatever its number
 abbrev pub fault_itself : PriorWhy → Option PriorWhy

@@ -16,7 +16,7 @@ use Rattle.sdc_base.specs.Truths.{IsTruth}
 use Rattle.linked_tables.specs.declared.mark.Mark.{Mark}
 use Rattle.apriori.specs.declared.prior.Prior.{Prior}
 use Rattle.apriori.specs.declared.faults.PriorWhy.{PriorWhy}
-use Rattle.apriori.specs.Faults.{LineOf, fault_of}
+use Rattle.apriori.specs.Faults.{LineOf, prior_fault_of}
 use Rattle.apriori.specs.CellLevels.{is_primary, levels_of}
 use Rattle.std.specs.declared.alloc.Global.{Global}
 use Rattle.sdc_base.specs.Answers.{Gives}
@@ -103,7 +103,7 @@ settle_of rules figures priors = do
 -- the answer is the cells with these figures and priors, or the first line by which one of them can't be settled
 abbrev pub GivesCells : Result (Vec Cell Global) PriorError → Rules → List Figures → List Prior → Type 0
 GivesCells result rules figures priors =
-    Gives fault_of (λ cells. map view_of_cell cells.items) result (settle_of rules figures priors)
+    Gives prior_fault_of (λ cells. map view_of_cell cells.items) result (settle_of rules figures priors)
 
 -- a statement about the figures of these marks holds over any records whose facts the marks have
 abbrev pub OverRecords : List Mark → (List Figures → Type 0) → Type 0

@@ -1,7 +1,7 @@
 ghost use Rattle.std.specs.Prelude.{◌≡◌, ◌<◌, ◌≤◌, ◌^◌, length, IfOk, OnErr};
 ghost use Rattle.sdc_base.specs.Answers.{Gives};
 ghost use Rattle.sdc_base.specs.Lines as spec;
-ghost use Rattle.apriori.specs.Faults.{fault_of};
+ghost use Rattle.apriori.specs.Faults.{prior_fault_of};
 ghost use Rattle.apriori.specs.Priors.{ArePriors};
 ghost use Rattle.apriori.specs.Applying.{apply_of, file_says};
 ghost use Rattle.apriori.specs.Noting.{lines_noted};
@@ -47,7 +47,7 @@ pub fn apply(
     requires decimals { decimals ≤ 13 }
     requires fewer_than_2_32 { length bytes.now < 2 ^ 32 }
     requires priors { ArePriors book.now.marks priors.old.items }
-    ensures exact { Gives fault_of (λ _. priors.new.items) result
+    ensures exact { Gives prior_fault_of (λ _. priors.new.items) result
         (file_says (basis_of book.now) table separator decimals priors.old.items bytes.now) }
     ensures unchanged { OnErr result (priors.new.items ≡ priors.old.items) }
     ensures priors { ArePriors book.now.marks priors.new.items }
@@ -74,7 +74,7 @@ fn priors_after(
     requires decimals { form.decimals ≤ 13 }
     requires fewer_than_2_32 { length bytes.now < 2 ^ 32 }
     requires priors { ArePriors book.now.marks priors.now }
-    ensures exact { Gives fault_of (λ changed. changed.items) result
+    ensures exact { Gives prior_fault_of (λ changed. changed.items) result
         (apply_of (basis_of book.now) form priors.now bytes.now) }
     ensures priors { IfOk result (λ changed. ArePriors book.now.marks changed.items) }
 {
@@ -94,7 +94,7 @@ fn note_lines(
     requires decimals { form.decimals ≤ 13 }
     requires fewer_than_2_32 { length bytes.now < 2 ^ 32 }
     requires priors { ArePriors book.now.marks priors.old.items }
-    ensures exact { Gives fault_of (λ _. priors.new.items) result
+    ensures exact { Gives prior_fault_of (λ _. priors.new.items) result
         (lines_noted (basis_of book.now) form 0 (spec.lines bytes.now) priors.old.items) }
     ensures priors { ArePriors book.now.marks priors.new.items }
 {

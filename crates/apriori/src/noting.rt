@@ -1,6 +1,6 @@
 ghost use Rattle.std.specs.Prelude.{◌≡◌, ◌<◌, ◌≤◌, ◌^◌, length};
 ghost use Rattle.sdc_base.specs.Answers.{Gives};
-ghost use Rattle.apriori.specs.Faults.{fault_of, fault_itself};
+ghost use Rattle.apriori.specs.Faults.{prior_fault_of, fault_itself};
 ghost use Rattle.apriori.specs.Priors.{ArePriors};
 ghost use Rattle.apriori.specs.Holding.{IsStatementOf};
 ghost use Rattle.apriori.specs.Applying.{at_line};
@@ -28,7 +28,7 @@ pub(crate) fn note_line(
     requires decimals { form.decimals ≤ 13 }
     requires fewer_than_2_32 { length text.now < 2 ^ 32 }
     requires priors { ArePriors book.now.marks priors.old.items }
-    ensures exact { Gives fault_of (λ _. priors.new.items) result
+    ensures exact { Gives prior_fault_of (λ _. priors.new.items) result
         (at_line form.table line (noting.line_noted (basis_of book.now) form line text.now priors.old.items)) }
     ensures priors { ArePriors book.now.marks priors.new.items }
 {

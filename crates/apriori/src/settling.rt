@@ -2,7 +2,7 @@ ghost use Rattle.std.specs.Prelude.{◌≡◌, map, All, length, IfOk, Ok};
 ghost use Rattle.std.specs.List.{zip};
 ghost use Rattle.sdc_base.specs.Answers.{Gives};
 ghost use Rattle.primary_rules.specs.Ranges.{AreInRange};
-ghost use Rattle.apriori.specs.Faults.{fault_of};
+ghost use Rattle.apriori.specs.Faults.{prior_fault_of};
 ghost use Rattle.apriori.specs.Priors.{ArePriors};
 ghost use Rattle.apriori.specs.Settling.{view_of_cell, told_of, IsReadyFor, settle_of, GivesCells, OverRecords};
 ghost use Rattle.apriori.specs.PrimaryShown.{first_of};
@@ -84,7 +84,7 @@ fn cells_of(
     requires in_range { AreInRange rules.now }
     requires ready { All (IsReadyFor rules.now) marks.now }
     requires priors { ArePriors marks.now priors.now }
-    ensures exact { Gives fault_of (λ settled. map view_of_cell settled.0.items) result
+    ensures exact { Gives prior_fault_of (λ settled. map view_of_cell settled.0.items) result
         (Ok (map (λ cell. spec.settled_cell rules.now cell.0 cell.1) (zip (told_of marks.now) priors.now))) }
     ensures clash { IfOk result (λ settled. settled.1
         ≡ primary_shown.first_clash rules.now (zip (told_of marks.now) priors.now)) }

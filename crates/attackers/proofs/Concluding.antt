@@ -31,7 +31,7 @@ use Rattle.certificate.specs.declared.extra.Extra.{Extra}
 use Rattle.attackers.specs.declared.faults.ExtraFault.TheVariants as fault
 use Rattle.attackers.specs.KnownCells.{without_known, is_attack, is_served, serves, IsAttack, Guards, GuardsAll}
 use Rattle.attackers.specs.Extras.{attack_of, subjects_of, hide_cells, Unguards}
-use Rattle.attackers.specs.Sieges.{case_of}
+use Rattle.attackers.specs.ContributorTasks.{case_of}
 use Rattle.attackers.specs.Dropping.{is_beside, cells_beside, IsNeedBelow}
 use Rattle.attackers.specs.ExtraFaults.{is_free_at, may_be_extra, cells_fault, is_need_of, need_cells_fault, need_fault, needs_fault, guard_cells_fault, guards_fault, attacks_fault, guarding_fault, extra_fault}
 use Rattle.attackers.specs.Guarding.{guards_in_order, lines_of, IsGuardedBy, IsGuarded, is_cannot}
@@ -39,7 +39,7 @@ use Rattle.attackers.specs.Narrowing.{IsNarrowed, IsOutcome}
 use Rattle.attackers.specs.GuardStops.{IsStopAsTold}
 use Rattle.attackers.specs.ExtraAcceptance.{IsGuarding}
 use Rattle.attackers.specs.AttackOrder.{attacks_of, unserved_attacks, IsThinned}
-use Rattle.attackers.specs.declared.siege.Siege.{Siege}
+use Rattle.attackers.specs.declared.contributor_task.ContributorTask.{ContributorTask}
 use Rattle.attackers.specs.declared.extra.GuardStop.{GuardStop}
 use Rattle.attackers.specs.declared.extra.Guarded.{Guarded}
 use Rattle.attackers.specs.declared.extra.Guarded.TheVariants as guards
@@ -237,16 +237,16 @@ extra_passes c soles first flags worlds guards extra one_each each_first each st
     (ap (λ (f : List Bool). guarding_fault c soles f lines extra) set ∙ last))
 
 -- what is left when all extra cells have been tried guards
-pub guarded_by : (siege : Siege) (first : List Bool) (worlds : List World) (extra : Extra) → length first ≡ length siege.cells.now → IsPermitted siege.cells.now first → ProtectedSays siege.system.now siege.cells.now first worlds → siege.attacks.now ≡ unserved_attacks siege.cells.now siege.soles.now worlds → IsNarrowed siege first extra → IsGuardedBy (case_of siege) siege.soles.now first worlds extra
-guarded_by siege first worlds extra each_first start protected attacks_are_left is =
-    let c : Case = case_of siege in
-    let soles : List (Option ℕ) = siege.soles.now in
-    let left : List Attack = siege.attacks.now in
-    let one_each : length c.cells ≡ c.system.cells = siege.fits.one_each in
+pub guarded_by : (task : ContributorTask) (first : List Bool) (worlds : List World) (extra : Extra) → length first ≡ length task.cells.now → IsPermitted task.cells.now first → ProtectedSays task.system.now task.cells.now first worlds → task.attacks.now ≡ unserved_attacks task.cells.now task.soles.now worlds → IsNarrowed task first extra → IsGuardedBy (case_of task) task.soles.now first worlds extra
+guarded_by task first worlds extra each_first start protected attacks_are_left is =
+    let c : Case = case_of task in
+    let soles : List (Option ℕ) = task.soles.now in
+    let left : List Attack = task.attacks.now in
+    let one_each : length c.cells ≡ c.system.cells = task.fits.one_each in
     let each : length is.flags ≡ length c.cells = omega (arith, is.each, one_each) in
     let cells_are : extra.cells ≡ cells_beside first is.flags (length is.flags) = is.cells_are ∙ is.tried.each_needed ∙ ap (λ n. cells_beside first is.flags n) (sym each) in
     let needs = All-weaker (IsNeedBelow c soles left is.flags is.larger (length c.cells)) (λ (need : ExtraNeed). IsAttack c.cells soles (attack_of need) × Unguards c soles (show is.flags need.subject) (attack_of need) need.multipliers)
-    (λ need own. need_left c soles left is.flags is.larger (length c.cells) need siege.fits.are_attacks is.tried.within own) extra.needs is.tried.are_needs in
+    (λ need own. need_left c soles left is.flags is.larger (length c.cells) need task.fits.are_attacks is.tried.within own) extra.needs is.tried.are_needs in
     let lines : List WorldLine = lines_of (asked_of 0 c.cells) worlds in
     let thinned : IsThinned (IsServedBy c.cells soles worlds) (attacks_of c.cells soles) left = subst (λ (l : List Attack). IsThinned (IsServedBy c.cells soles worlds) (attacks_of c.cells soles) l) (sym attacks_are_left) (unserved_thinned c.cells soles worlds protected.count) in
     let Met : Attack → Type 0 = λ attack. is_served c.cells soles attack (lines ++ extra.guards) ≡ true in
@@ -273,18 +273,18 @@ left_out c soles first worlds protected = record {
   guards = λ attack own. worlds_guard c soles first attack worlds own.0 protected.are own.1;
 }
 
-pub guarded : (siege : Siege) (first : List Bool) (worlds : List World) (found : Guarded) → length first ≡ length siege.cells.now → IsPermitted siege.cells.now first → ProtectedSays siege.system.now siege.cells.now first worlds → siege.attacks.now ≡ unserved_attacks siege.cells.now siege.soles.now worlds → IsOutcome siege first found → IsGuarded (case_of siege) siege.soles.now first worlds found
-guarded siege first worlds (guards.Guards extra) each start protected left is = guarded_by siege first worlds extra each start protected left is
-guarded siege first worlds (guards.CannotAgainst row cell side m) each start protected left is =
-    cannot_all (case_of siege) siege.soles.now first (IsServedBy siege.cells.now siege.soles.now worlds) (attacks_of siege.cells.now siege.soles.now) siege.attacks.now (record { row = row; cell = cell; side = side })
-    (subst (λ (l : List Attack). IsThinned (IsServedBy siege.cells.now siege.soles.now worlds) (attacks_of siege.cells.now siege.soles.now) l) (sym left) (unserved_thinned siege.cells.now siege.soles.now worlds protected.count))
-    (left_out (case_of siege) siege.soles.now first worlds protected) (in_full siege.cells.now first each start) m is
+pub guarded : (task : ContributorTask) (first : List Bool) (worlds : List World) (found : Guarded) → length first ≡ length task.cells.now → IsPermitted task.cells.now first → ProtectedSays task.system.now task.cells.now first worlds → task.attacks.now ≡ unserved_attacks task.cells.now task.soles.now worlds → IsOutcome task first found → IsGuarded (case_of task) task.soles.now first worlds found
+guarded task first worlds (guards.Guards extra) each start protected left is = guarded_by task first worlds extra each start protected left is
+guarded task first worlds (guards.CannotAgainst row cell side m) each start protected left is =
+    cannot_all (case_of task) task.soles.now first (IsServedBy task.cells.now task.soles.now worlds) (attacks_of task.cells.now task.soles.now) task.attacks.now (record { row = row; cell = cell; side = side })
+    (subst (λ (l : List Attack). IsThinned (IsServedBy task.cells.now task.soles.now worlds) (attacks_of task.cells.now task.soles.now) l) (sym left) (unserved_thinned task.cells.now task.soles.now worlds protected.count))
+    (left_out (case_of task) task.soles.now first worlds protected) (in_full task.cells.now first each start) m is
 
-pub stopped : (siege : Siege) (first : List Bool) (worlds : List World) (stop : GuardStop) → ProtectedSays siege.system.now siege.cells.now first worlds → siege.attacks.now ≡ unserved_attacks siege.cells.now siege.soles.now worlds → IsStopAsTold (case_of siege) siege.soles.now siege.prices.now siege.attacks.now first siege.limit stop → IsStopAsTold (case_of siege) siege.soles.now siege.prices.now (attacks_of siege.cells.now siege.soles.now) first siege.limit stop
-stopped siege first worlds stop protected left is =
-    stops_all (case_of siege) siege.soles.now siege.prices.now first siege.limit (IsServedBy siege.cells.now siege.soles.now worlds) (attacks_of siege.cells.now siege.soles.now) siege.attacks.now stop.fault stop.against.row stop.against.extras stop.against.dropped
-    (subst (λ (l : List Attack). IsThinned (IsServedBy siege.cells.now siege.soles.now worlds) (attacks_of siege.cells.now siege.soles.now) l) (sym left) (unserved_thinned siege.cells.now siege.soles.now worlds protected.count))
-    (left_out (case_of siege) siege.soles.now first worlds protected) is
+pub stopped : (task : ContributorTask) (first : List Bool) (worlds : List World) (stop : GuardStop) → ProtectedSays task.system.now task.cells.now first worlds → task.attacks.now ≡ unserved_attacks task.cells.now task.soles.now worlds → IsStopAsTold (case_of task) task.soles.now task.prices.now task.attacks.now first task.limit stop → IsStopAsTold (case_of task) task.soles.now task.prices.now (attacks_of task.cells.now task.soles.now) first task.limit stop
+stopped task first worlds stop protected left is =
+    stops_all (case_of task) task.soles.now task.prices.now first task.limit (IsServedBy task.cells.now task.soles.now worlds) (attacks_of task.cells.now task.soles.now) task.attacks.now stop.fault stop.against.row stop.against.extras stop.against.dropped
+    (subst (λ (l : List Attack). IsThinned (IsServedBy task.cells.now task.soles.now worlds) (attacks_of task.cells.now task.soles.now) l) (sym left) (unserved_thinned task.cells.now task.soles.now worlds protected.count))
+    (left_out (case_of task) task.soles.now first worlds protected) is
 
 -- no hidden set guards exactly where the full set doesn't
 pub cannot_where : (c : Case) (soles : List (Option ℕ)) (flags : List Bool) (worlds : List World) (found : Guarded) → IsGuarded c soles flags worlds found → IsTrue (is_cannot found) ↔ ¬ GuardsAll c soles (full_set c.cells) (attacks_of c.cells soles)

@@ -15,11 +15,11 @@ use Rattle.attackers.specs.declared.attack.Attack.{Attack}
 use Rattle.certificate.specs.declared.extra.ExtraNeed.{ExtraNeed}
 use Rattle.attackers.specs.declared.extra.GuardStop.{GuardStop}
 use Rattle.attackers.specs.declared.progress.Progress.{Progress}
-use Rattle.attackers.specs.declared.siege.Siege.{Siege}
+use Rattle.attackers.specs.declared.contributor_task.ContributorTask.{ContributorTask}
 use Rattle.attackers.specs.KnownCells.{Guards, GuardsBefore}
 use Rattle.attackers.specs.AttackOrder.{IsThinned}
 use Rattle.attackers.specs.Extras.{attack_of, hide_cells, subjects_of, IsInTurn, EachExtra}
-use Rattle.attackers.specs.Sieges.{case_of, IsExtendedUpTo, IsAsked, IsHalted, IsCannot}
+use Rattle.attackers.specs.ContributorTasks.{case_of, IsExtendedUpTo, IsAsked, IsHalted, IsCannot}
 use Rattle.attackers.specs.Dropping.{is_beside, AreDropped, IsTryStop, TriesStopFor}
 use Rattle.attackers.specs.GuardStops.{list_with_fault, row_with_fault, IsGuardStop, StopsFor, IsStopAsTold}
 use Rattle.attackers.proofs.AllAttacks.{within_cells, within_one}
@@ -36,26 +36,26 @@ none_dropped c soles attacks first larger = record {
 }
 
 -- a question that has a fault stops the hiding of extra cells
-stop_by : (siege : Siege) (first : List Bool) (progress : Progress) (fault : AskFault) (row : ℕ) → IsHalted siege first progress fault row → IsGuardStop (case_of siege) siege.soles.now siege.prices.now siege.attacks.now first siege.limit fault row progress.extras []
-stop_by siege first progress fault row is = record {
+stop_by : (task : ContributorTask) (first : List Bool) (progress : Progress) (fault : AskFault) (row : ℕ) → IsHalted task first progress fault row → IsGuardStop (case_of task) task.soles.now task.prices.now task.attacks.now first task.limit fault row progress.extras []
+stop_by task first progress fault row is = record {
   each = is.is_extended.each;
-  are_dropped = none_dropped (case_of siege) siege.soles.now siege.attacks.now first (hide_cells first (subjects_of progress.extras));
+  are_dropped = none_dropped (case_of task) task.soles.now task.attacks.now first (hide_cells first (subjects_of progress.extras));
   place = is.place;
-  asked = subst (λ (f : List Bool). IsAsked (case_of siege) siege.soles.now siege.attacks.now f siege.limit fault row is.place) is.is_extended.hidden_is is.asked;
+  asked = subst (λ (f : List Bool). IsAsked (case_of task) task.soles.now task.attacks.now f task.limit fault row is.place) is.is_extended.hidden_is is.asked;
   onward = λ none. is.is_extended.onward;
 }
 
-stops_for : (siege : Siege) (first : List Bool) (progress : Progress) (fault : AskFault) (row : ℕ) → IsHalted siege first progress fault row → StopsFor (case_of siege) siege.soles.now siege.prices.now siege.attacks.now first siege.limit fault (row_with_fault fault row) (list_with_fault fault progress.extras) (list_with_fault fault [])
-stops_for siege first progress (Work walk) row is = stop_by siege first progress (Work walk) row is
-stops_for siege first progress (Wide walk place) row is = stop_by siege first progress (Wide walk place) row is
-stops_for siege first progress (Size question hidden) row is = stop_by siege first progress (Size question hidden) row is
-stops_for siege first progress Memory row is = (refl, refl, refl)
+stops_for : (task : ContributorTask) (first : List Bool) (progress : Progress) (fault : AskFault) (row : ℕ) → IsHalted task first progress fault row → StopsFor (case_of task) task.soles.now task.prices.now task.attacks.now first task.limit fault (row_with_fault fault row) (list_with_fault fault progress.extras) (list_with_fault fault [])
+stops_for task first progress (Work walk) row is = stop_by task first progress (Work walk) row is
+stops_for task first progress (Wide walk place) row is = stop_by task first progress (Wide walk place) row is
+stops_for task first progress (Size question hidden) row is = stop_by task first progress (Size question hidden) row is
+stops_for task first progress Memory row is = (refl, refl, refl)
 
 -- a question that has a fault while a cell is tried
-try_stop_by : (siege : Siege) (first : List Bool) (progress : Progress) (place : ℕ) (fault : AskFault) (row : ℕ) (dropped : List ℕ) → IsExtendedUpTo siege place first progress → IsTryStop (case_of siege) siege.soles.now siege.attacks.now first progress.hidden.flags siege.limit fault row dropped → IsGuardStop (case_of siege) siege.soles.now siege.prices.now siege.attacks.now first siege.limit fault row progress.extras dropped
-try_stop_by siege first progress place fault row dropped is stop =
-    let own : IsTryStop (case_of siege) siege.soles.now siege.attacks.now first (hide_cells first (subjects_of progress.extras)) siege.limit fault row dropped =
-    subst (λ (f : List Bool). IsTryStop (case_of siege) siege.soles.now siege.attacks.now first f siege.limit fault row dropped) is.hidden_is stop in
+try_stop_by : (task : ContributorTask) (first : List Bool) (progress : Progress) (place : ℕ) (fault : AskFault) (row : ℕ) (dropped : List ℕ) → IsExtendedUpTo task place first progress → IsTryStop (case_of task) task.soles.now task.attacks.now first progress.hidden.flags task.limit fault row dropped → IsGuardStop (case_of task) task.soles.now task.prices.now task.attacks.now first task.limit fault row progress.extras dropped
+try_stop_by task first progress place fault row dropped is stop =
+    let own : IsTryStop (case_of task) task.soles.now task.attacks.now first (hide_cells first (subjects_of progress.extras)) task.limit fault row dropped =
+    subst (λ (f : List Bool). IsTryStop (case_of task) task.soles.now task.attacks.now first f task.limit fault row dropped) is.hidden_is stop in
     record {
       each = is.each;
       are_dropped = own.are_dropped;
@@ -64,11 +64,11 @@ try_stop_by siege first progress place fault row dropped is stop =
       onward = λ none. absurd (own.drops_a_cell none);
     }
 
-stops_trying : (siege : Siege) (first : List Bool) (progress : Progress) (place : ℕ) (fault : AskFault) (row : ℕ) (dropped : List ℕ) → IsExtendedUpTo siege place first progress → TriesStopFor siege first progress.hidden.flags fault row dropped → StopsFor (case_of siege) siege.soles.now siege.prices.now siege.attacks.now first siege.limit fault (row_with_fault fault row) (list_with_fault fault progress.extras) (list_with_fault fault dropped)
-stops_trying siege first progress place (Work walk) row dropped is stop = try_stop_by siege first progress place (Work walk) row dropped is stop
-stops_trying siege first progress place (Wide walk at) row dropped is stop = try_stop_by siege first progress place (Wide walk at) row dropped is stop
-stops_trying siege first progress place (Size question hidden) row dropped is stop = try_stop_by siege first progress place (Size question hidden) row dropped is stop
-stops_trying siege first progress place Memory row dropped is stop = (refl, refl, refl)
+stops_trying : (task : ContributorTask) (first : List Bool) (progress : Progress) (place : ℕ) (fault : AskFault) (row : ℕ) (dropped : List ℕ) → IsExtendedUpTo task place first progress → TriesStopFor task first progress.hidden.flags fault row dropped → StopsFor (case_of task) task.soles.now task.prices.now task.attacks.now first task.limit fault (row_with_fault fault row) (list_with_fault fault progress.extras) (list_with_fault fault dropped)
+stops_trying task first progress place (Work walk) row dropped is stop = try_stop_by task first progress place (Work walk) row dropped is stop
+stops_trying task first progress place (Wide walk at) row dropped is stop = try_stop_by task first progress place (Wide walk at) row dropped is stop
+stops_trying task first progress place (Size question hidden) row dropped is stop = try_stop_by task first progress place (Size question hidden) row dropped is stop
+stops_trying task first progress place Memory row dropped is stop = (refl, refl, refl)
 
 -- the same of what is handed out
 pub told : (c : Case) (soles : List (Option ℕ)) (prices : List ℕ) (attacks : List Attack) (first : List Bool) (limit : ℕ) (stop : GuardStop) (fault : AskFault) (row : ℕ) (extras : List ExtraNeed) (dropped : List ℕ) → stop.fault ≡ fault → stop.against.row ≡ row → stop.against.extras ≡ extras → stop.against.dropped ≡ dropped → StopsFor c soles prices attacks first limit fault row extras dropped → IsStopAsTold c soles prices attacks first limit stop
@@ -78,15 +78,15 @@ told c soles prices attacks first limit stop fault row extras dropped one two th
     (subst (λ (l : List ExtraNeed). StopsFor c soles prices attacks first limit fault row l stop.against.dropped) (sym three)
     (subst (λ (l : List ℕ). StopsFor c soles prices attacks first limit fault row extras l) (sym four) is)))
 
-pub stops_told : (siege : Siege) (first : List Bool) (progress : Progress) (fault : AskFault) (row : ℕ) (extras : List ExtraNeed) (none : List ℕ) (stop : GuardStop) → extras ≡ progress.extras → none ≡ [] → stop.fault ≡ fault → stop.against.row ≡ row_with_fault fault row → stop.against.extras ≡ list_with_fault fault extras → stop.against.dropped ≡ list_with_fault fault none → IsHalted siege first progress fault row → IsStopAsTold (case_of siege) siege.soles.now siege.prices.now siege.attacks.now first siege.limit stop
-stops_told siege first progress fault row extras none stop same empty one two three four is =
-    told (case_of siege) siege.soles.now siege.prices.now siege.attacks.now first siege.limit stop fault (row_with_fault fault row) (list_with_fault fault progress.extras) (list_with_fault fault []) one two
-    (three ∙ ap (λ (l : List ExtraNeed). list_with_fault fault l) same) (four ∙ ap (λ (l : List ℕ). list_with_fault fault l) empty) (stops_for siege first progress fault row is)
+pub stops_told : (task : ContributorTask) (first : List Bool) (progress : Progress) (fault : AskFault) (row : ℕ) (extras : List ExtraNeed) (none : List ℕ) (stop : GuardStop) → extras ≡ progress.extras → none ≡ [] → stop.fault ≡ fault → stop.against.row ≡ row_with_fault fault row → stop.against.extras ≡ list_with_fault fault extras → stop.against.dropped ≡ list_with_fault fault none → IsHalted task first progress fault row → IsStopAsTold (case_of task) task.soles.now task.prices.now task.attacks.now first task.limit stop
+stops_told task first progress fault row extras none stop same empty one two three four is =
+    told (case_of task) task.soles.now task.prices.now task.attacks.now first task.limit stop fault (row_with_fault fault row) (list_with_fault fault progress.extras) (list_with_fault fault []) one two
+    (three ∙ ap (λ (l : List ExtraNeed). list_with_fault fault l) same) (four ∙ ap (λ (l : List ℕ). list_with_fault fault l) empty) (stops_for task first progress fault row is)
 
-pub tries_told : (siege : Siege) (first : List Bool) (progress : Progress) (place : ℕ) (fault : AskFault) (row : ℕ) (extras : List ExtraNeed) (dropped : List ℕ) (stop : GuardStop) → extras ≡ progress.extras → stop.fault ≡ fault → stop.against.row ≡ row_with_fault fault row → stop.against.extras ≡ list_with_fault fault extras → stop.against.dropped ≡ list_with_fault fault dropped → IsExtendedUpTo siege place first progress → TriesStopFor siege first progress.hidden.flags fault row dropped → IsStopAsTold (case_of siege) siege.soles.now siege.prices.now siege.attacks.now first siege.limit stop
-tries_told siege first progress place fault row extras dropped stop same one two three four is tries =
-    told (case_of siege) siege.soles.now siege.prices.now siege.attacks.now first siege.limit stop fault (row_with_fault fault row) (list_with_fault fault progress.extras) (list_with_fault fault dropped) one two
-    (three ∙ ap (λ (l : List ExtraNeed). list_with_fault fault l) same) four (stops_trying siege first progress place fault row dropped is tries)
+pub tries_told : (task : ContributorTask) (first : List Bool) (progress : Progress) (place : ℕ) (fault : AskFault) (row : ℕ) (extras : List ExtraNeed) (dropped : List ℕ) (stop : GuardStop) → extras ≡ progress.extras → stop.fault ≡ fault → stop.against.row ≡ row_with_fault fault row → stop.against.extras ≡ list_with_fault fault extras → stop.against.dropped ≡ list_with_fault fault dropped → IsExtendedUpTo task place first progress → TriesStopFor task first progress.hidden.flags fault row dropped → IsStopAsTold (case_of task) task.soles.now task.prices.now task.attacks.now first task.limit stop
+tries_told task first progress place fault row extras dropped stop same one two three four is tries =
+    told (case_of task) task.soles.now task.prices.now task.attacks.now first task.limit stop fault (row_with_fault fault row) (list_with_fault fault progress.extras) (list_with_fault fault dropped) one two
+    (three ∙ ap (λ (l : List ExtraNeed). list_with_fault fault l) same) four (stops_trying task first progress place fault row dropped is tries)
 
 -- ---- from the attacks that are left to all
 

@@ -13,7 +13,7 @@ use Rattle.repair.proofs.Flags.{IsWithin, by_test}
 use Rattle.repair.proofs.Growing.{given_more}
 use Rattle.attackers.specs.declared.attack.Attack.{Attack}
 use Rattle.attackers.specs.KnownCells.{IsAttack, Guards, GuardsAll, GuardsBefore, serves, is_served}
-use Rattle.attackers.specs.Sieges.{HoldGuards}
+use Rattle.attackers.specs.ContributorTasks.{HoldGuards}
 use Rattle.attackers.specs.WholeGuards.{IsWholeGuard}
 use Rattle.attackers.proofs.Knowing.{serving_guards}
 

@@ -30,7 +30,7 @@ use Rattle.attackers.specs.declared.attack.Attack.{Attack}
 use Rattle.certificate.specs.declared.extra.ExtraNeed.{ExtraNeed}
 use Rattle.attackers.specs.KnownCells.{is_known, without_known, with_known, target_of, GuardsBefore, IsAttack}
 use Rattle.attackers.specs.Extras.{attack_of, hide_cells, subjects_of, Unguards, IsInTurn, EachExtra}
-use Rattle.attackers.specs.Sieges.{IsExtended, IsAnswerAgainst, IsRefutedAt, IsCannot, IsAsked}
+use Rattle.attackers.specs.ContributorTasks.{IsExtended, IsAnswerAgainst, IsRefutedAt, IsCannot, IsAsked}
 use Rattle.attackers.proofs.AskedCells.{AttackSays, attack_says}
 use Rattle.attackers.proofs.Knowing.{left_says, closed_says, without_within, all_guards_more, world_serves}
 

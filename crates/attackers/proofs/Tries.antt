@@ -23,10 +23,10 @@ use Rattle.repair.proofs.Repairing.{none_is_more, last_same}
 use Rattle.repair.proofs.Tries.{rest_next, rest_set, without_more, tried_now, tried_same, ascend_more, all_more, front_same, shown_here, below_on}
 use Rattle.attackers.specs.declared.attack.Attack.{Attack}
 use Rattle.certificate.specs.declared.extra.ExtraNeed.{ExtraNeed}
-use Rattle.attackers.specs.declared.siege.Siege.{Siege}
+use Rattle.attackers.specs.declared.contributor_task.ContributorTask.{ContributorTask}
 use Rattle.attackers.specs.KnownCells.{without_known, IsAttack, Guards, GuardsAll, is_served}
 use Rattle.attackers.specs.Extras.{attack_of, subjects_of}
-use Rattle.attackers.specs.Sieges.{case_of, HoldGuards}
+use Rattle.attackers.specs.ContributorTasks.{case_of, HoldGuards}
 use Rattle.attackers.specs.WholeGuards.{IsWholeGuard}
 use Rattle.attackers.specs.Dropping.{stays, renewed_guards, is_beside, cells_beside, IsNeedFor, IsNeedBelow, IsTried, IsTryStop, TriesStopFor, HasFault}
 use Rattle.attackers.proofs.AskedCells.{attack_says, attack_at}
@@ -246,15 +246,15 @@ try_stop c soles attacks first larger n flags guards needs dropped limit fault r
       has_fault = subst (λ (f : List Bool). HasFault c soles attacks f limit fault row) (sym set_is) has;
     }
 
-pub tries_stop : (siege : Siege) (first larger : List Bool) (fault : AskFault) (row : ℕ) (dropped : List ℕ) → IsTryStop (case_of siege) siege.soles.now siege.attacks.now first larger siege.limit fault row dropped → TriesStopFor siege first larger fault row dropped
-tries_stop siege first larger (Work walk) row dropped is = is
-tries_stop siege first larger (Wide walk place) row dropped is = is
-tries_stop siege first larger (Size question hidden) row dropped is = is
-tries_stop siege first larger Memory row dropped is = tt
+pub tries_stop : (task : ContributorTask) (first larger : List Bool) (fault : AskFault) (row : ℕ) (dropped : List ℕ) → IsTryStop (case_of task) task.soles.now task.attacks.now first larger task.limit fault row dropped → TriesStopFor task first larger fault row dropped
+tries_stop task first larger (Work walk) row dropped is = is
+tries_stop task first larger (Wide walk place) row dropped is = is
+tries_stop task first larger (Size question hidden) row dropped is = is
+tries_stop task first larger Memory row dropped is = tt
 
 -- want of memory says nothing
-pub no_memory_stop : (siege : Siege) (first larger : List Bool) (fault : AskFault) (row : ℕ) (dropped : List ℕ) → fault ≡ Memory → TriesStopFor siege first larger fault row dropped
-no_memory_stop siege first larger fault row dropped is = rw is tt
+pub no_memory_stop : (task : ContributorTask) (first larger : List Bool) (fault : AskFault) (row : ℕ) (dropped : List ℕ) → fault ≡ Memory → TriesStopFor task first larger fault row dropped
+no_memory_stop task first larger fault row dropped is = rw is tt
 
 -- a set stays permitted where a cell is shown that is hidden beside a permitted one
 pub permitted_less : (cells : List Cell) (first flags : List Bool) (cell : ℕ) → is_beside first flags cell ≡ true → IsPermitted cells first → IsPermitted cells flags → IsPermitted cells (show flags cell)

@@ -15,12 +15,12 @@ use Rattle.repair.proofs.Tries.{show_within}
 use Rattle.attackers.specs.declared.attack.Attack.{Attack}
 use Rattle.attackers.specs.declared.extra.Guarded.{Guarded}
 use Rattle.attackers.specs.declared.extra.Guarded.TheVariants as guards
-use Rattle.attackers.specs.declared.siege.Siege.{Siege}
+use Rattle.attackers.specs.declared.contributor_task.ContributorTask.{ContributorTask}
 use Rattle.attackers.specs.AttackOrder.{attacks_of, unserved_attacks, IsThinned}
 use Rattle.attackers.specs.Dropping.{is_beside, cells_beside, IsNeedFor}
 use Rattle.attackers.specs.Extras.{attack_of, hide_cells, subjects_of}
 use Rattle.attackers.specs.Narrowing.{IsNarrowed, IsOutcome}
-use Rattle.attackers.specs.Sieges.{case_of}
+use Rattle.attackers.specs.ContributorTasks.{case_of}
 use Rattle.attackers.specs.Turns.{IsNeedWhenTried, AreLeftOfTurns, IsLeftOfTurns}
 use Rattle.attackers.proofs.AllAttacks.{IsServedBy, unserved_thinned}
 use Rattle.attackers.proofs.Concluding.{hidden_beside, left_out}
@@ -64,14 +64,14 @@ need_all c soles first set Is all left thinned out within need is = record {
 }
 
 -- what is left when all extra cells have been tried came in turn
-left_of_turns : (siege : Siege) (first : List Bool) (worlds : List World) (extra : Extra) → length first ≡ length siege.cells.now → ProtectedSays siege.system.now siege.cells.now first worlds → siege.attacks.now ≡ unserved_attacks siege.cells.now siege.soles.now worlds → IsNarrowed siege first extra → AreLeftOfTurns (case_of siege) siege.soles.now siege.prices.now (attacks_of siege.cells.now siege.soles.now) first extra
-left_of_turns siege first worlds extra each_first protected attacks_are_left is =
-    let c : Case = case_of siege in
-    let soles : List (Option ℕ) = siege.soles.now in
+left_of_turns : (task : ContributorTask) (first : List Bool) (worlds : List World) (extra : Extra) → length first ≡ length task.cells.now → ProtectedSays task.system.now task.cells.now first worlds → task.attacks.now ≡ unserved_attacks task.cells.now task.soles.now worlds → IsNarrowed task first extra → AreLeftOfTurns (case_of task) task.soles.now task.prices.now (attacks_of task.cells.now task.soles.now) first extra
+left_of_turns task first worlds extra each_first protected attacks_are_left is =
+    let c : Case = case_of task in
+    let soles : List (Option ℕ) = task.soles.now in
     let all : List Attack = attacks_of c.cells soles in
-    let left : List Attack = siege.attacks.now in
+    let left : List Attack = task.attacks.now in
     let Is : Attack → Type 0 = IsServedBy c.cells soles worlds in
-    let each : length is.flags ≡ length c.cells = omega (arith, is.each, siege.fits.one_each) in
+    let each : length is.flags ≡ length c.cells = omega (arith, is.each, task.fits.one_each) in
     let cells_are : extra.cells ≡ cells_beside first is.flags (length is.flags) = is.cells_are ∙ is.tried.each_needed ∙ ap (λ n. cells_beside first is.flags n) (sym each) in
     let set : hide_cells first extra.cells ≡ is.flags = ap (λ (l : List ℕ). hide_cells first l) cells_are ∙ hidden_beside first is.flags (each_first ∙ sym each) is.tried.first_stays in
     let thinned : IsThinned Is all left = subst (λ (l : List Attack). IsThinned Is all l) (sym attacks_are_left) (unserved_thinned c.cells soles worlds protected.count) in
@@ -84,7 +84,7 @@ left_of_turns siege first worlds extra each_first protected attacks_are_left is 
     (first_when_tried first is.flags is.larger need.subject is.tried.first_stays is.tried.within (beside k d within)) need (is.tried.are_needs k d within).refuted in
     record {
       turns = is.turns;
-      in_turn = each_all c soles siege.prices.now first first Is all left thinned out (within_itself first) is.turns is.in_turn;
+      in_turn = each_all c soles task.prices.now first first Is all left thinned out (within_itself first) is.turns is.in_turn;
       within = λ cell own. ap (λ (f : List Bool). is_hidden f cell) (sym is.larger_is) ∙ is.tried.within cell (ap (λ (f : List Bool). is_hidden f cell) (sym set) ∙ own);
       each_needed = sym is.cells_are;
       are_needs =
@@ -92,6 +92,6 @@ left_of_turns siege first worlds extra each_first protected attacks_are_left is 
           (subst (λ (l : List Bool). All (IsNeedWhenTried c soles all is.flags l) extra.needs) is.larger_is needs);
     }
 
-pub turns_are : (siege : Siege) (first : List Bool) (worlds : List World) (found : Guarded) → length first ≡ length siege.cells.now → ProtectedSays siege.system.now siege.cells.now first worlds → siege.attacks.now ≡ unserved_attacks siege.cells.now siege.soles.now worlds → IsOutcome siege first found → IsLeftOfTurns (case_of siege) siege.soles.now siege.prices.now (attacks_of siege.cells.now siege.soles.now) first found
-turns_are siege first worlds (guards.Guards extra) each protected left is = left_of_turns siege first worlds extra each protected left is
-turns_are siege first worlds (guards.CannotAgainst row cell side m) each protected left is = tt
+pub turns_are : (task : ContributorTask) (first : List Bool) (worlds : List World) (found : Guarded) → length first ≡ length task.cells.now → ProtectedSays task.system.now task.cells.now first worlds → task.attacks.now ≡ unserved_attacks task.cells.now task.soles.now worlds → IsOutcome task first found → IsLeftOfTurns (case_of task) task.soles.now task.prices.now (attacks_of task.cells.now task.soles.now) first found
+turns_are task first worlds (guards.Guards extra) each protected left is = left_of_turns task first worlds extra each protected left is
+turns_are task first worlds (guards.CannotAgainst row cell side m) each protected left is = tt

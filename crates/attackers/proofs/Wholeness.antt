@@ -17,12 +17,12 @@ use Rattle.attackers.specs.declared.attack.Attack.{Attack}
 use Rattle.attackers.specs.declared.extra.Guarded.{Guarded}
 use Rattle.attackers.specs.declared.extra.Guarded.TheVariants as guards
 use Rattle.attackers.specs.declared.extra.GuardStop.{GuardStop}
-use Rattle.attackers.specs.declared.siege.Siege.{Siege}
+use Rattle.attackers.specs.declared.contributor_task.ContributorTask.{ContributorTask}
 use Rattle.attackers.specs.Dropping.{IsNeedBelow}
 use Rattle.attackers.specs.Extras.{IsInTurn, EachExtra}
 use Rattle.attackers.specs.GuardStops.{IsGuardStop, StopsFor, IsStopAsTold}
 use Rattle.attackers.specs.Narrowing.{IsOutcome}
-use Rattle.attackers.specs.Sieges.{case_of}
+use Rattle.attackers.specs.ContributorTasks.{case_of}
 use Rattle.attackers.specs.WholeGuards.{IsWholeGuard, IsWholeNeed, IsWholeGuarded, IsWholeGuardStop}
 use Rattle.attackers.proofs.GuardOrder.{All-in_order}
 
@@ -35,12 +35,12 @@ needs_whole c soles attacks flags larger signs n needs are all =
     (λ (need : ExtraNeed) is. given_whole c.system c.cells _ signs (need.cell, need.side) need.multipliers are is.refuted.gives) needs all
 
 -- where the relations have signs what guarding against a list of attacks comes to is in whole units
-pub outcome_whole : (siege : Siege) (first signs : List Bool) (found : Guarded) → AreSigns (case_of siege).system.relations signs → IsOutcome siege first found → IsWholeGuarded found
-outcome_whole siege first signs (guards.Guards extra) are is = (
-  subst (All IsWholeGuard) (sym is.guards_are) (All-in_order IsWholeGuard (asked_of 0 siege.cells.now) is.guards (is.tried.holds.whole signs are)),
-  needs_whole (case_of siege) siege.soles.now siege.attacks.now is.flags is.larger signs (length siege.cells.now) extra.needs are is.tried.are_needs,
+pub outcome_whole : (task : ContributorTask) (first signs : List Bool) (found : Guarded) → AreSigns (case_of task).system.relations signs → IsOutcome task first found → IsWholeGuarded found
+outcome_whole task first signs (guards.Guards extra) are is = (
+  subst (All IsWholeGuard) (sym is.guards_are) (All-in_order IsWholeGuard (asked_of 0 task.cells.now) is.guards (is.tried.holds.whole signs are)),
+  needs_whole (case_of task) task.soles.now task.attacks.now is.flags is.larger signs (length task.cells.now) extra.needs are is.tried.are_needs,
 )
-outcome_whole siege first signs (guards.CannotAgainst row cell side m) are is = is.whole signs are
+outcome_whole task first signs (guards.CannotAgainst row cell side m) are is = is.whole signs are
 
 extras_whole : (c : Case) (soles : List (Option ℕ)) (prices : List ℕ) (attacks : List Attack) (flags signs : List Bool) (extras : List ExtraNeed) → AreSigns c.system.relations signs → EachExtra (IsInTurn c soles prices attacks) flags extras → All IsWholeNeed extras
 extras_whole c soles prices attacks flags signs [] are each = All-nil IsWholeNeed

@@ -12,13 +12,13 @@ use Rattle.repair.specs.Stops.{Ascend}
 use Rattle.attackers.specs.declared.attack.Attack.{Attack}
 use Rattle.certificate.specs.declared.extra.ExtraNeed.{ExtraNeed}
 use Rattle.attackers.specs.declared.progress.Progress.{Progress}
-use Rattle.attackers.specs.declared.siege.Siege.{Siege}
+use Rattle.attackers.specs.declared.contributor_task.ContributorTask.{ContributorTask}
 use Rattle.attackers.specs.declared.trial.Trial.{Trial}
 use Rattle.attackers.specs.declared.trial.Trial.TheVariants.{Renewed, Refused}
 use Rattle.attackers.specs.declared.trying.Findings.{Findings}
 use Rattle.attackers.specs.KnownCells.{without_known, target_of, GuardsAll, GuardsBefore}
 use Rattle.attackers.specs.Extras.{attack_of, subjects_of, Unguards}
-use Rattle.attackers.specs.Sieges.{case_of, HoldGuards, IsAsked}
+use Rattle.attackers.specs.ContributorTasks.{case_of, HoldGuards, IsAsked}
 
 -- a guard's world doesn't move the cell
 abbrev pub stays : ℕ → WorldLine → Bool
@@ -48,28 +48,28 @@ pub record IsNeedFor (c : Case) (soles : List (Option ℕ)) (attacks : List Atta
       need.multipliers
 
 -- what one attack comes to while a cell is tried: guards hold against one attack more, or multipliers refute it
-abbrev pub IsRenewal : Siege → List Bool → ℕ → List WorldLine → ℕ → List WorldLine → Option ExtraNeed → Type 0
-IsRenewal siege flags cell guards place news None =
-    HoldGuards (case_of siege) siege.soles.now flags (take (place + 1) siege.attacks.now)
+abbrev pub IsRenewal : ContributorTask → List Bool → ℕ → List WorldLine → ℕ → List WorldLine → Option ExtraNeed → Type 0
+IsRenewal task flags cell guards place news None =
+    HoldGuards (case_of task) task.soles.now flags (take (place + 1) task.attacks.now)
     (renewed_guards cell guards news)
-IsRenewal siege flags cell guards place news (Some need) =
-    (need.subject ≡ cell) × IsNeedFor (case_of siege) siege.soles.now siege.attacks.now flags need
+IsRenewal task flags cell guards place news (Some need) =
+    (need.subject ≡ cell) × IsNeedFor (case_of task) task.soles.now task.attacks.now flags need
 
 -- what trying to show a cell comes to: guards that hold against all attacks, or a refutation
-abbrev pub IsTrial : Siege → List Bool → ℕ → List WorldLine → Trial → Type 0
-IsTrial siege flags cell guards (Renewed news) =
-    HoldGuards (case_of siege) siege.soles.now flags siege.attacks.now (renewed_guards cell guards news)
-IsTrial siege flags cell guards (Refused need) =
-    (need.subject ≡ cell) × IsNeedFor (case_of siege) siege.soles.now siege.attacks.now flags need
+abbrev pub IsTrial : ContributorTask → List Bool → ℕ → List WorldLine → Trial → Type 0
+IsTrial task flags cell guards (Renewed news) =
+    HoldGuards (case_of task) task.soles.now flags task.attacks.now (renewed_guards cell guards news)
+IsTrial task flags cell guards (Refused need) =
+    (need.subject ≡ cell) × IsNeedFor (case_of task) task.soles.now task.attacks.now flags need
 
 -- a question about some attack has a fault
 abbrev pub HasFault : Case → List (Option ℕ) → List Attack → List Bool → ℕ → AskFault → ℕ → Type 0
 HasFault c soles attacks flags limit fault row = (place : ℕ) × IsAsked c soles attacks flags limit fault row place
 
--- the same of a siege
-abbrev pub HasFaultOf : Siege → List Bool → AskFault → ℕ → Type 0
-HasFaultOf siege flags fault row =
-    HasFault (case_of siege) siege.soles.now siege.attacks.now flags siege.limit fault row
+-- the same of a task
+abbrev pub HasFaultOf : ContributorTask → List Bool → AskFault → ℕ → Type 0
+HasFaultOf task flags fault row =
+    HasFault (case_of task) task.soles.now task.attacks.now flags task.limit fault row
 
 -- a need of a cell below a number: its multipliers refute for the cells that were hidden when it was tried
 pub record IsNeedBelow (c : Case) (soles : List (Option ℕ)) (attacks : List Attack) (flags larger : List Bool) (n : ℕ) (need : ExtraNeed)
@@ -105,10 +105,10 @@ pub record IsTried (c : Case) (soles : List (Option ℕ)) (attacks : List Attack
   pub below : All (λ cell. cell < n) dropped
   pub are_extra : All (λ cell. is_beside first larger cell ≡ true) dropped
 
--- so far has a siege come with trying extra cells, by its progress and its findings
-abbrev pub HasTried : Siege → List Bool → List Bool → ℕ → Progress → Findings → Type 0
-HasTried siege first larger n progress found =
-    IsTried (case_of siege) siege.soles.now siege.attacks.now first larger n progress.hidden.flags progress.guards
+-- so far has a task come with trying extra cells, by its progress and its findings
+abbrev pub HasTried : ContributorTask → List Bool → List Bool → ℕ → Progress → Findings → Type 0
+HasTried task first larger n progress found =
+    IsTried (case_of task) task.soles.now task.attacks.now first larger n progress.hidden.flags progress.guards
     found.needs found.dropped
 
 -- a question has a fault while a cell, the last of those dropped, is being tried
@@ -119,24 +119,24 @@ pub record IsTryStop (c : Case) (soles : List (Option ℕ)) (attacks : List Atta
   pub has_fault : HasFault c soles attacks (show_all larger dropped) limit fault row
 
 -- the same, but nothing under want of memory
-abbrev pub TriesStopFor : Siege → List Bool → List Bool → AskFault → ℕ → List ℕ → Type 0
-TriesStopFor siege first larger Memory row dropped = Unit {0}
-TriesStopFor siege first larger (Work walk) row dropped =
-    IsTryStop (case_of siege) siege.soles.now siege.attacks.now first larger siege.limit (Work walk) row dropped
-TriesStopFor siege first larger (Wide walk place) row dropped =
-    IsTryStop (case_of siege) siege.soles.now siege.attacks.now first larger siege.limit (Wide walk place) row dropped
-TriesStopFor siege first larger (Size question hidden) row dropped =
-    IsTryStop (case_of siege) siege.soles.now siege.attacks.now first larger siege.limit (Size question hidden) row
+abbrev pub TriesStopFor : ContributorTask → List Bool → List Bool → AskFault → ℕ → List ℕ → Type 0
+TriesStopFor task first larger Memory row dropped = Unit {0}
+TriesStopFor task first larger (Work walk) row dropped =
+    IsTryStop (case_of task) task.soles.now task.attacks.now first larger task.limit (Work walk) row dropped
+TriesStopFor task first larger (Wide walk place) row dropped =
+    IsTryStop (case_of task) task.soles.now task.attacks.now first larger task.limit (Wide walk place) row dropped
+TriesStopFor task first larger (Size question hidden) row dropped =
+    IsTryStop (case_of task) task.soles.now task.attacks.now first larger task.limit (Size question hidden) row
     dropped
 
 -- from whatever set the extra cells below a number had been tried, those up to it have been
-abbrev pub IsCellTrial : Siege → List Bool → ℕ → Progress → Findings → Progress → Findings → Type 0
-IsCellTrial siege first cell before found after later =
-    (larger : List Bool) → HasTried siege first larger cell before found
-    → HasTried siege first larger (cell + 1) after later
+abbrev pub IsCellTrial : ContributorTask → List Bool → ℕ → Progress → Findings → Progress → Findings → Type 0
+IsCellTrial task first cell before found after later =
+    (larger : List Bool) → HasTried task first larger cell before found
+    → HasTried task first larger (cell + 1) after later
 
 -- from whatever set the extra cells below a number had been tried, trying stops with the fault
-abbrev pub IsCellTrialStop : Siege → List Bool → ℕ → Progress → Findings → AskFault → ℕ → List ℕ → Type 0
-IsCellTrialStop siege first cell before found fault row dropped =
-    (larger : List Bool) → HasTried siege first larger cell before found
-    → TriesStopFor siege first larger fault row dropped
+abbrev pub IsCellTrialStop : ContributorTask → List Bool → ℕ → Progress → Findings → AskFault → ℕ → List ℕ → Type 0
+IsCellTrialStop task first cell before found fault row dropped =
+    (larger : List Bool) → HasTried task first larger cell before found
+    → TriesStopFor task first larger fault row dropped

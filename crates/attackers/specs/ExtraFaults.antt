@@ -21,14 +21,14 @@ use Rattle.attackers.specs.AttackOrder.{attacks_of}
 use Rattle.attackers.specs.Extras.{attack_of, hide_cells}
 
 -- the fault of a call; want of memory names none
-abbrev pub fault_of : ExtraFault → Option ExtraFault
-fault_of (fault.Cell k) = Some (fault.Cell k)
-fault_of (fault.NeedCell k) = Some (fault.NeedCell k)
-fault_of (fault.Need k why) = Some (fault.Need k why)
-fault_of (fault.GuardCell k) = Some (fault.GuardCell k)
-fault_of (fault.Guard k why) = Some (fault.Guard k why)
-fault_of (fault.Open row cell side) = Some (fault.Open row cell side)
-fault_of fault.Memory = None
+abbrev pub extra_fault_of : ExtraFault → Option ExtraFault
+extra_fault_of (fault.Cell k) = Some (fault.Cell k)
+extra_fault_of (fault.NeedCell k) = Some (fault.NeedCell k)
+extra_fault_of (fault.Need k why) = Some (fault.Need k why)
+extra_fault_of (fault.GuardCell k) = Some (fault.GuardCell k)
+extra_fault_of (fault.Guard k why) = Some (fault.Guard k why)
+extra_fault_of (fault.Open row cell side) = Some (fault.Open row cell side)
+extra_fault_of fault.Memory = None
 
 -- the cell with this number is free
 abbrev pub is_free_at : List Cell → ℕ → Bool

@@ -7,7 +7,7 @@ use Rattle.attackers.specs.declared.attack.Attack.{Attack}
 use Rattle.certificate.specs.declared.extra.ExtraNeed.{ExtraNeed}
 use Rattle.attackers.specs.declared.extra.GuardStop.{GuardStop}
 use Rattle.attackers.specs.Extras.{hide_cells, subjects_of, IsInTurn, EachExtra, LastIsNotBehind}
-use Rattle.attackers.specs.Sieges.{IsAsked}
+use Rattle.attackers.specs.ContributorTasks.{IsAsked}
 use Rattle.attackers.specs.Dropping.{AreDropped}
 
 -- a list as it is handed out with a fault: none under want of memory

@@ -12,7 +12,7 @@ use Rattle.attackers.specs.declared.extra.Guarded.{Guarded}
 use Rattle.attackers.specs.declared.extra.Guarded.TheVariants.{Guards, CannotAgainst}
 use Rattle.attackers.specs.KnownCells.{GuardsAll}
 use Rattle.attackers.specs.AttackOrder.{attacks_of}
-use Rattle.attackers.specs.Sieges.{IsCannot}
+use Rattle.attackers.specs.ContributorTasks.{IsCannot}
 use Rattle.attackers.specs.ExtraFaults.{rank_of, extra_fault}
 use Rattle.attackers.specs.ExtraAcceptance.{IsGuarding}
 

@@ -2,9 +2,9 @@ pub mod Alone
 pub mod KnownCells
 pub mod AttackOrder
 pub mod Extras
-pub mod SiegeParts
+pub mod ContributorTaskParts
 pub mod WholeGuards
-pub mod Sieges
+pub mod ContributorTasks
 pub mod Dropping
 pub mod ExtraFaults
 pub mod ExtraAcceptance

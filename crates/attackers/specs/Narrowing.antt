@@ -7,32 +7,32 @@ use Rattle.certificate.specs.declared.extra.Extra.{Extra}
 use Rattle.certificate.specs.declared.extra.ExtraNeed.{ExtraNeed}
 use Rattle.attackers.specs.declared.extra.Guarded.{Guarded}
 use Rattle.attackers.specs.declared.extra.Guarded.TheVariants.{Guards, CannotAgainst}
-use Rattle.attackers.specs.declared.siege.Siege.{Siege}
+use Rattle.attackers.specs.declared.contributor_task.ContributorTask.{ContributorTask}
 use Rattle.attackers.specs.Extras.{hide_cells, subjects_of, IsInTurn, EachExtra}
-use Rattle.attackers.specs.Sieges.{case_of, IsCannot}
+use Rattle.attackers.specs.ContributorTasks.{case_of, IsCannot}
 use Rattle.attackers.specs.Dropping.{IsTried}
 use Rattle.attackers.specs.Guarding.{guards_in_order}
 
 -- An extra is what is left when all extra cells, which came in turn, have been tried: the cells that have needs, and the
 -- guards in the order of what is asked.
-pub record IsNarrowed (siege : Siege) (first : List Bool) (extra : Extra) : Type 0 where
+pub record IsNarrowed (task : ContributorTask) (first : List Bool) (extra : Extra) : Type 0 where
   pub turns : List ExtraNeed
-  pub in_turn : EachExtra (IsInTurn (case_of siege) siege.soles.now siege.prices.now siege.attacks.now) first turns
+  pub in_turn : EachExtra (IsInTurn (case_of task) task.soles.now task.prices.now task.attacks.now) first turns
   pub larger : List Bool
   pub larger_is : larger ≡ hide_cells first (subjects_of turns)
   pub flags : List Bool
   pub guards : List WorldLine
   pub dropped : List ℕ
-  pub tried : IsTried (case_of siege) siege.soles.now siege.attacks.now first larger (length siege.cells.now) flags
+  pub tried : IsTried (case_of task) task.soles.now task.attacks.now first larger (length task.cells.now) flags
       guards extra.needs dropped
-  pub each : length flags ≡ siege.system.now.cells
-  pub permitted : IsPermitted siege.cells.now flags
+  pub each : length flags ≡ task.system.now.cells
+  pub permitted : IsPermitted task.cells.now flags
   pub cells_are : extra.cells ≡ subjects_of extra.needs
-  pub guards_are : extra.guards ≡ guards_in_order (asked_of 0 siege.cells.now) guards
+  pub guards_are : extra.guards ≡ guards_in_order (asked_of 0 task.cells.now) guards
 
 -- what guarding against the attacks comes to
-abbrev pub IsOutcome : Siege → List Bool → Guarded → Type 0
-IsOutcome siege first (Guards extra) = IsNarrowed siege first extra
-IsOutcome siege first (CannotAgainst row cell side multipliers) =
-    IsCannot (case_of siege) siege.soles.now siege.attacks.now (record { row = row; cell = cell; side = side })
+abbrev pub IsOutcome : ContributorTask → List Bool → Guarded → Type 0
+IsOutcome task first (Guards extra) = IsNarrowed task first extra
+IsOutcome task first (CannotAgainst row cell side multipliers) =
+    IsCannot (case_of task) task.soles.now task.attacks.now (record { row = row; cell = cell; side = side })
     multipliers

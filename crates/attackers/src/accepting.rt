@@ -1,6 +1,6 @@
 ghost use Rattle.std.specs.Prelude.{◌≡◌, ◌<◌, Ok, length, All, IfOk};
 ghost use Rattle.sdc_base.specs.Answers.{Gives};
-ghost use Rattle.sdc_base.specs.Grounds.{IsGround};
+ghost use Rattle.sdc_base.specs.Patterns.{IsPattern};
 ghost use Rattle.worlds.specs.ProtectFaults.{line_number};
 ghost use Rattle.worlds.specs.WorldFaults.{IsGivenWorld};
 ghost use Rattle.repair.specs.HidingOrder.{protected_case, show};
@@ -8,7 +8,7 @@ ghost use Rattle.attackers.specs.Extras as extras;
 ghost use Rattle.attackers.specs.Extras.{hide_cells};
 ghost use Rattle.attackers.specs.KnownCells as known;
 ghost use Rattle.attackers.specs.ExtraFaults as spec;
-ghost use Rattle.attackers.specs.ExtraFaults.{fault_of};
+ghost use Rattle.attackers.specs.ExtraFaults.{extra_fault_of};
 ghost use Rattle.attackers.specs.ExtraAcceptance.{IsGuarding};
 
 use crate::attack::Attack;
@@ -50,9 +50,9 @@ pub fn accept_extra(
     worlds: &[WorldLine],
     extra: &Extra,
 ) -> Result<(), ExtraFault>
-    requires ground { IsGround system.now cells.now hidden.now.flags }
+    requires ground { IsPattern system.now cells.now hidden.now.flags }
     requires worlds { All (λ line. IsGivenWorld system.now cells.now hidden.now.flags line.world) worlds.now }
-    ensures exact { Gives fault_of (λ u. u) result
+    ensures exact { Gives extra_fault_of (λ u. u) result
         (spec.extra_fault (protected_case system.now cells.now) soles.now hidden.now.flags worlds.now extra.now) }
     ensures accepted { result ≡ Ok tt
         → IsGuarding (protected_case system.now cells.now) soles.now hidden.now.flags extra.now }
@@ -73,7 +73,7 @@ fn extra_cells_fault(
     worlds: &[WorldLine],
     extra: &Extra,
 ) -> Result<(), ExtraFault>
-    ensures exact { Gives fault_of (λ u. u) result
+    ensures exact { Gives extra_fault_of (λ u. u) result
         (spec.extra_fault (protected_case pattern.now.system.now pattern.now.cells.now) soles.now
         pattern.now.hidden.now.flags worlds.now extra.now) }
 {
@@ -204,7 +204,7 @@ fn check_guarding(
 ) -> Result<(), ExtraFault>
     requires needs { All (λ need. need.cell < length extended.now.cells.now) extra.now.needs }
     requires subjects { All (λ need. need.subject < length extended.now.cells.now) extra.now.needs }
-    ensures { Gives fault_of (λ u. u) result
+    ensures { Gives extra_fault_of (λ u. u) result
         (spec.guarding_fault (protected_case extended.now.system.now extended.now.cells.now) soles.now
         extended.now.hidden.now.flags worlds.now extra.now) }
 {
@@ -227,7 +227,7 @@ fn check_needs(
     requires scratch { length scratch.old ≡ extended.now.system.now.cells }
     requires needs { All (λ need. need.cell < length extended.now.cells.now) needs.now }
     requires subjects { All (λ need. need.subject < length extended.now.cells.now) needs.now }
-    ensures exact { Gives fault_of (λ u. u) result
+    ensures exact { Gives extra_fault_of (λ u. u) result
         (spec.needs_fault (protected_case extended.now.system.now extended.now.cells.now) soles.now
         extended.now.hidden.now.flags 0 needs.now) }
     ensures length { length scratch.new ≡ length scratch.old }
@@ -250,7 +250,7 @@ fn check_need(
     requires scratch { length scratch.old ≡ extended.now.system.now.cells }
     requires cell { need.now.cell < length extended.now.cells.now }
     requires subject { need.now.subject < length extended.now.cells.now }
-    ensures exact { Gives fault_of (λ u. u) result
+    ensures exact { Gives extra_fault_of (λ u. u) result
         (spec.need_fault (protected_case extended.now.system.now extended.now.cells.now) soles.now
         extended.now.hidden.now.flags place need.now) }
     ensures length { length scratch.new ≡ length scratch.old }

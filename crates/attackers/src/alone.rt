@@ -4,7 +4,7 @@ ghost use Rattle.linked_tables.specs.BookCells.{cells};
 ghost use Rattle.attackers.specs.Alone.{TellFrequencies, AreSoles, IsSole, falls_at};
 
 use crate::falling::falls;
-use crate::guesses::{guess_at, guess_rows};
+use crate::row_candidates::{candidate_at, candidate_rows};
 use linked_tables::Book;
 use sdc_base::{Memory, Place, Row};
 use std::alloc::Global;
@@ -23,17 +23,17 @@ pub fn soles(alloc: Global, book: &Book, rows: &[Row]) -> Result<Vec<Option<u32>
     ensures one_each { IfOk result (λ soles. length soles.items ≡ length (cells book.now)) }
     ensures soles { IfOk result (λ soles. AreSoles book.now rows.now soles.items) }
 {
-    let guesses = guess_rows(alloc, book, rows)?;
+    let candidates = candidate_rows(alloc, book, rows)?;
     let mut soles = Vec::new(alloc);
     'cells: for cell in 0..book.cells() {
-        let sole = sole_of(book, rows, cell, guess_at(&guesses, cell));
+        let sole = sole_of(book, rows, cell, candidate_at(&candidates, cell));
         soles.push(sole)?;
     }
     Ok(soles)
 }
 
-// The place of a cell's one record, by a guess of it, if there is one.
-fn sole_of(book: &Book, rows: &[Row], cell: u32, guess: Option<u32>) -> Option<u32>
+// The place of a cell's one record, from a candidate for it, if there is one.
+fn sole_of(book: &Book, rows: &[Row], cell: u32, candidate: Option<u32>) -> Option<u32>
     requires told { TellFrequencies book.now rows.now }
     requires fewer_than_2_32 { length rows.now < 2 ^ 32 }
     requires inside { cell < length book.now.marks }
@@ -48,9 +48,9 @@ fn sole_of(book: &Book, rows: &[Row], cell: u32, guess: Option<u32>) -> Option<u
     if mark.facts.freq != 1 {
         return None;
     }
-    if let Some(guess) = guess {
-        if is_at(book, rows, name, guess) {
-            return Some(guess);
+    if let Some(candidate) = candidate {
+        if is_at(book, rows, name, candidate) {
+            return Some(candidate);
         }
     }
     find_row(book, rows, name)

@@ -1,5 +1,5 @@
 ghost use Rattle.std.specs.Prelude.{◌≡◌, true, length, IfOk, IfErr, IfNone, IfSome};
-ghost use Rattle.sdc_base.specs.Grounds.{IsGround};
+ghost use Rattle.sdc_base.specs.Patterns.{IsPattern};
 ghost use Rattle.sdc_base.specs.HiddenSets.{is_hidden};
 ghost use Rattle.sdc_base.specs.declared.cell.Kind.TheVariants.{Primary as PrimaryKind};
 ghost use Rattle.repair.specs.HidingOrder.{IsOfKind};
@@ -7,11 +7,11 @@ ghost use Rattle.repair.specs.LevelQuestions.{HasCause, IsLevelAnswer};
 ghost use Rattle.attackers.specs.KnownCells as known;
 ghost use Rattle.attackers.specs.KnownCells.{IsAttack, target_of};
 ghost use Rattle.attackers.specs.Extras.{Unguards};
-ghost use Rattle.attackers.specs.Sieges.{case_of, IsAnswerAgainst, NoneBreaksAgainst, IsCheapestAgainst};
+ghost use Rattle.attackers.specs.ContributorTasks.{case_of, IsAnswerAgainst, NoneBreaksAgainst, IsCheapestAgainst};
 
 use crate::attack::Attack;
+use crate::contributor_task::ContributorTask;
 use crate::known::{with_known, without_known};
-use crate::siege::Siege;
 use interval_audit::{Answer, AskFault};
 use kept_questions::{KeptAnswer, KeptQuestions};
 use repair::{find_cheapest, level_question};
@@ -27,24 +27,24 @@ const LEAST_LIMIT: u64 = 1_000;
 /// what is kept, or else of the walk.
 pub(crate) fn ask_against(
     alloc: Global,
-    siege: &Siege<'_>,
+    task: &ContributorTask<'_>,
     flags: &[bool],
     attack: Attack,
     kept: &mut Option<KeptQuestions>,
 ) -> Result<KeptAnswer, AskFault>
-    requires each { length flags.now ≡ siege.now.system.now.cells }
-    requires is_attack { IsAttack siege.now.cells.now siege.now.soles.now attack }
+    requires each { length flags.now ≡ task.now.system.now.cells }
+    requires is_attack { IsAttack task.now.cells.now task.now.soles.now attack }
     requires hidden { is_hidden flags.now attack.cell ≡ true }
-    ensures ok { IfOk result (IsAnswerAgainst (case_of siege.now) siege.now.soles.now flags.now attack) }
-    ensures err { IfErr result (λ fault. HasCause siege.now.system.now siege.now.cells.now
-        (known.without_known siege.now.soles.now attack.row flags.now) (target_of attack) siege.now.limit fault) }
+    ensures ok { IfOk result (IsAnswerAgainst (case_of task.now) task.now.soles.now flags.now attack) }
+    ensures err { IfErr result (λ fault. HasCause task.now.system.now task.now.cells.now
+        (known.without_known task.now.soles.now attack.row flags.now) (target_of attack) task.now.limit fault) }
 {
-    let left = without_known(alloc, siege.soles, attack.row, flags)?;
+    let left = without_known(alloc, task.soles, attack.row, flags)?;
     let asked = (attack.cell, attack.side);
-    let found = ask_kept(alloc, siege, &left, asked, kept);
+    let found = ask_kept(alloc, task, &left, asked, kept);
     match found {
         Some(answer) => Ok(answer),
-        None => ask_walk(alloc, siege, &left, asked),
+        None => ask_walk(alloc, task, &left, asked),
     }
 }
 
@@ -52,44 +52,44 @@ pub(crate) fn ask_against(
 /// quick without.
 pub(crate) fn questions_about(
     alloc: Global,
-    siege: &Siege<'_>,
+    task: &ContributorTask<'_>,
     hidden: &Hidden,
 ) -> Option<KeptQuestions> {
-    if siege.system.has_signs() {
+    if task.system.has_signs() {
         return None;
     }
-    Some(KeptQuestions::new(alloc, siege.system.system(), siege.cells, hidden))
+    Some(KeptQuestions::new(alloc, task.system.system(), task.cells, hidden))
 }
 
 // The same about these hidden cells, which are those of the kept questions and more.
 pub(crate) fn questions_about_more(
     alloc: Global,
-    siege: &Siege<'_>,
+    task: &ContributorTask<'_>,
     hidden: &Hidden,
     kept: Option<KeptQuestions>,
 ) -> Option<KeptQuestions> {
     match kept {
-        Some(questions) => Some(questions.widen(alloc, siege.system.system(), siege.cells, hidden)),
-        None => questions_about(alloc, siege, hidden),
+        Some(questions) => Some(questions.widen(alloc, task.system.system(), task.cells, hidden)),
+        None => questions_about(alloc, task, hidden),
     }
 }
 
 // Whether a hidden set takes a primary cell to a side as far as its level, asked of what is kept, where it has an answer.
 fn ask_kept(
     alloc: Global,
-    siege: &Siege<'_>,
+    task: &ContributorTask<'_>,
     left: &Hidden,
     asked: (u32, Side),
     kept: &mut Option<KeptQuestions>,
 ) -> Option<KeptAnswer>
-    requires ground { IsGround siege.now.system.now siege.now.cells.now left.now.flags }
-    requires primary { IsOfKind siege.now.cells.now asked.0 PrimaryKind }
+    requires ground { IsPattern task.now.system.now task.now.cells.now left.now.flags }
+    requires primary { IsOfKind task.now.cells.now asked.0 PrimaryKind }
     requires hidden { is_hidden left.now.flags asked.0 ≡ true }
-    ensures answer { IfSome result (λ answer. IsLevelAnswer siege.now.system.now siege.now.cells.now left.now.flags asked
+    ensures answer { IfSome result (λ answer. IsLevelAnswer task.now.system.now task.now.cells.now left.now.flags asked
         answer) }
 {
-    let answer = ask_table(alloc, siege, left, asked, kept)?;
-    if siege.limit < LEAST_LIMIT && matches!(&answer, KeptAnswer::Stops(_)) {
+    let answer = ask_table(alloc, task, left, asked, kept)?;
+    if task.limit < LEAST_LIMIT && matches!(&answer, KeptAnswer::Stops(_)) {
         return None;
     }
     Some(answer)
@@ -98,49 +98,49 @@ fn ask_kept(
 // What the kept table answers, however few steps the job allows.
 fn ask_table(
     alloc: Global,
-    siege: &Siege<'_>,
+    task: &ContributorTask<'_>,
     left: &Hidden,
     asked: (u32, Side),
     kept: &mut Option<KeptQuestions>,
 ) -> Option<KeptAnswer>
-    requires ground { IsGround siege.now.system.now siege.now.cells.now left.now.flags }
-    requires primary { IsOfKind siege.now.cells.now asked.0 PrimaryKind }
+    requires ground { IsPattern task.now.system.now task.now.cells.now left.now.flags }
+    requires primary { IsOfKind task.now.cells.now asked.0 PrimaryKind }
     requires hidden { is_hidden left.now.flags asked.0 ≡ true }
-    ensures answer { IfSome result (λ answer. IsLevelAnswer siege.now.system.now siege.now.cells.now left.now.flags asked
+    ensures answer { IfSome result (λ answer. IsLevelAnswer task.now.system.now task.now.cells.now left.now.flags asked
         answer) }
 {
-    if siege.system.has_signs() {
+    if task.system.has_signs() {
         return None;
     }
     let questions = kept.as_mut()?;
     let pattern = Pattern {
-        system: siege.system.system(),
-        cells: siege.cells,
+        system: task.system.system(),
+        cells: task.cells,
         hidden: left,
     };
-    let question = level_question(siege.cells, asked);
+    let question = level_question(task.cells, asked);
     questions.ask(alloc, &pattern, question)
 }
 
 // The same, asked of the walk.
 fn ask_walk(
     alloc: Global,
-    siege: &Siege<'_>,
+    task: &ContributorTask<'_>,
     left: &Hidden,
     asked: (u32, Side),
 ) -> Result<KeptAnswer, AskFault>
-    requires ground { IsGround siege.now.system.now siege.now.cells.now left.now.flags }
-    requires primary { IsOfKind siege.now.cells.now asked.0 PrimaryKind }
+    requires ground { IsPattern task.now.system.now task.now.cells.now left.now.flags }
+    requires primary { IsOfKind task.now.cells.now asked.0 PrimaryKind }
     requires hidden { is_hidden left.now.flags asked.0 ≡ true }
-    ensures ok { IfOk result (λ answer. IsLevelAnswer siege.now.system.now siege.now.cells.now left.now.flags asked
+    ensures ok { IfOk result (λ answer. IsLevelAnswer task.now.system.now task.now.cells.now left.now.flags asked
         answer) }
-    ensures err { IfErr result (λ fault. HasCause siege.now.system.now siege.now.cells.now left.now.flags asked
-        siege.now.limit fault) }
+    ensures err { IfErr result (λ fault. HasCause task.now.system.now task.now.cells.now left.now.flags asked
+        task.now.limit fault) }
 {
-    let question = level_question(siege.cells, asked);
-    let answer = siege
+    let question = level_question(task.cells, asked);
+    let answer = task
         .system
-        .ask(alloc, siege.cells, left, question, siege.limit)?;
+        .ask(alloc, task.cells, left, question, task.limit)?;
     match answer {
         Answer::Reaches(world) => Ok(KeptAnswer::Reaches(world)),
         Answer::Stops { multipliers, .. } => Ok(KeptAnswer::Stops(multipliers)),
@@ -150,32 +150,32 @@ fn ask_walk(
 /// The cheapest cell that would break the refutation of an attack, of those that the contributor doesn't know.
 pub(crate) fn subject_against(
     alloc: Global,
-    siege: &Siege<'_>,
+    task: &ContributorTask<'_>,
     flags: &[bool],
     attack: Attack,
     multipliers: &Multipliers,
 ) -> Result<Option<u32>, Memory>
-    requires each { length flags.now ≡ siege.now.system.now.cells }
-    requires is_attack { IsAttack siege.now.cells.now siege.now.soles.now attack }
-    requires refutes { Unguards (case_of siege.now) siege.now.soles.now flags.now attack multipliers.now }
+    requires each { length flags.now ≡ task.now.system.now.cells }
+    requires is_attack { IsAttack task.now.cells.now task.now.soles.now attack }
+    requires refutes { Unguards (case_of task.now) task.now.soles.now flags.now attack multipliers.now }
     ensures none { IfOk result (λ subject. IfNone subject
-        (NoneBreaksAgainst siege.now flags.now attack multipliers.now)) }
+        (NoneBreaksAgainst task.now flags.now attack multipliers.now)) }
     ensures cheapest { IfOk result (λ subject. IfSome subject
-        (IsCheapestAgainst siege.now flags.now attack multipliers.now)) }
+        (IsCheapestAgainst task.now flags.now attack multipliers.now)) }
 {
-    let left = without_known(alloc, siege.soles, attack.row, flags)?;
-    let closed = with_known(alloc, siege.soles, attack.row, flags)?;
-    let mut counts = Vec::from_elem(alloc, 0, siege.cells.len())?;
+    let left = without_known(alloc, task.soles, attack.row, flags)?;
+    let closed = with_known(alloc, task.soles, attack.row, flags)?;
+    let mut counts = Vec::from_elem(alloc, 0, task.cells.len())?;
     match check_refutation(
-        siege.system.system(),
-        siege.cells,
+        task.system.system(),
+        task.cells,
         &left,
         attack.cell,
         attack.side,
         multipliers,
         &mut counts,
     ) {
-        Ok(()) => Ok(find_cheapest(siege.cells, closed.flags.as_slice(), siege.prices, &counts)),
+        Ok(()) => Ok(find_cheapest(task.cells, closed.flags.as_slice(), task.prices, &counts)),
         Err(_) => unreachable!(),
     }
 }

@@ -7,7 +7,7 @@ ghost use Rattle.repair.specs.HidingOrder.{protected_case, prices_of};
 ghost use Rattle.repair.specs.KeptWorlds.{HasModestLevels};
 ghost use Rattle.attackers.specs.AttackOrder as order;
 ghost use Rattle.attackers.specs.KnownCells.{GuardsAll};
-ghost use Rattle.attackers.specs.Sieges.{case_of, HoldGuards, IsExtendedUpTo};
+ghost use Rattle.attackers.specs.ContributorTasks.{case_of, HoldGuards, IsExtendedUpTo};
 ghost use Rattle.attackers.specs.GuardStops.{IsStopAsTold};
 ghost use Rattle.attackers.specs.Guarding.{IsGuarded, is_cannot};
 ghost use Rattle.attackers.specs.Narrowing.{IsOutcome};
@@ -16,11 +16,11 @@ ghost use Rattle.attackers.specs.WholeGuards.{IsWholeGuarded, IsWholeGuardStop};
 
 use crate::asking::questions_about;
 use crate::collecting::extra_of;
+use crate::contributor_task::ContributorTask;
 use crate::extra::{GuardStop, Guarded};
 use crate::order::unserved_attacks;
 use crate::progress::Progress;
 use crate::serving::guard_all;
-use crate::siege::Siege;
 use crate::stopping::{out_of_memory, stop_with};
 use crate::trying::{Findings, try_all};
 use cost_rule::{CostRule, TellsCosts};
@@ -113,7 +113,7 @@ pub fn guard<F: TellsCosts>(
     let Ok(signed) = SignedSystem::of(alloc, system) else {
         return Err(out_of_memory(alloc));
     };
-    let siege = Siege {
+    let task = ContributorTask {
         system: &signed,
         cells,
         soles,
@@ -121,51 +121,51 @@ pub fn guard<F: TellsCosts>(
         attacks: &attacks,
         limit,
     };
-    resist_beside(alloc, &siege, &asked, protected)
+    resist_beside(alloc, &task, &asked, protected)
 }
 
 // Guards against the attacks that a protection's worlds don't serve, beside its hidden set.
 fn resist_beside(
     alloc: Global,
-    siege: &Siege<'_>,
+    task: &ContributorTask<'_>,
     asked: &[(u32, Side)],
     protected: &Protected<'_>,
 ) -> Result<Guarded, GuardStop>
-    requires of_system { protected.now.system ≡ siege.now.system.now }
-    requires of_cells { protected.now.cells ≡ siege.now.cells.now }
-    requires each_flag { length protected.now.hidden.flags ≡ length siege.now.cells.now }
-    requires asked { asked.now ≡ asked_of 0 siege.now.cells.now }
-    requires left { siege.now.attacks.now
-        ≡ order.unserved_attacks siege.now.cells.now siege.now.soles.now protected.now.worlds }
-    ensures guarded { IfOk result (IsGuarded (case_of siege.now) siege.now.soles.now protected.now.hidden.flags
+    requires of_system { protected.now.system ≡ task.now.system.now }
+    requires of_cells { protected.now.cells ≡ task.now.cells.now }
+    requires each_flag { length protected.now.hidden.flags ≡ length task.now.cells.now }
+    requires asked { asked.now ≡ asked_of 0 task.now.cells.now }
+    requires left { task.now.attacks.now
+        ≡ order.unserved_attacks task.now.cells.now task.now.soles.now protected.now.worlds }
+    ensures guarded { IfOk result (IsGuarded (case_of task.now) task.now.soles.now protected.now.hidden.flags
         protected.now.worlds) }
-    ensures turns { IfOk result (IsLeftOfTurns (case_of siege.now) siege.now.soles.now siege.now.prices.now
-        (order.attacks_of siege.now.cells.now siege.now.soles.now) protected.now.hidden.flags) }
-    ensures stopped { IfErr result (IsStopAsTold (case_of siege.now) siege.now.soles.now siege.now.prices.now
-        (order.attacks_of siege.now.cells.now siege.now.soles.now) protected.now.hidden.flags siege.now.limit) }
-    ensures whole { (signs : List Bool) → AreSigns siege.now.system.now.relations signs
+    ensures turns { IfOk result (IsLeftOfTurns (case_of task.now) task.now.soles.now task.now.prices.now
+        (order.attacks_of task.now.cells.now task.now.soles.now) protected.now.hidden.flags) }
+    ensures stopped { IfErr result (IsStopAsTold (case_of task.now) task.now.soles.now task.now.prices.now
+        (order.attacks_of task.now.cells.now task.now.soles.now) protected.now.hidden.flags task.now.limit) }
+    ensures whole { (signs : List Bool) → AreSigns task.now.system.now.relations signs
         → IfOk result IsWholeGuarded }
-    ensures whole_stop { (signs : List Bool) → AreSigns siege.now.system.now.relations signs
+    ensures whole_stop { (signs : List Bool) → AreSigns task.now.system.now.relations signs
         → IfErr result IsWholeGuardStop }
 {
     // for the proof: read, so that they are known to have no fault
     let _worlds = protected.worlds();
-    resist(alloc, siege, asked, protected.hidden())
+    resist(alloc, task, asked, protected.hidden())
 }
 
 // Guards against a list of attacks, beside a first hidden set.
 fn resist(
     alloc: Global,
-    siege: &Siege<'_>,
+    task: &ContributorTask<'_>,
     asked: &[(u32, Side)],
     first: &Hidden,
 ) -> Result<Guarded, GuardStop>
-    requires each { length first.now.flags ≡ siege.now.system.now.cells }
-    requires permitted { IsPermitted siege.now.cells.now first.now.flags }
-    requires asked { asked.now ≡ asked_of 0 siege.now.cells.now }
-    ensures guarded { IfOk result (IsOutcome siege.now first.now.flags) }
-    ensures stopped { IfErr result (IsStopAsTold (case_of siege.now) siege.now.soles.now siege.now.prices.now
-        siege.now.attacks.now first.now.flags siege.now.limit) }
+    requires each { length first.now.flags ≡ task.now.system.now.cells }
+    requires permitted { IsPermitted task.now.cells.now first.now.flags }
+    requires asked { asked.now ≡ asked_of 0 task.now.cells.now }
+    ensures guarded { IfOk result (IsOutcome task.now first.now.flags) }
+    ensures stopped { IfErr result (IsStopAsTold (case_of task.now) task.now.soles.now task.now.prices.now
+        task.now.attacks.now first.now.flags task.now.limit) }
 {
     let Ok(flags) = first.flags.as_slice().to_vec(alloc) else {
         return Err(out_of_memory(alloc));
@@ -176,13 +176,13 @@ fn resist(
         },
         guards: Items::empty(alloc),
         extras: Items::empty(alloc),
-        kept: questions_about(alloc, siege, first),
+        kept: questions_about(alloc, task, first),
     };
-    let outcome = guard_all(alloc, siege, &mut progress);
+    let outcome = guard_all(alloc, task, &mut progress);
     let found = match outcome {
         Ok(found) => found,
-        Err(halt) => {
-            return Err(stop_with(alloc, halt, progress.extras, Items::empty(alloc)));
+        Err(row_fault) => {
+            return Err(stop_with(alloc, row_fault, progress.extras, Items::empty(alloc)));
         }
     };
     match found {
@@ -192,37 +192,37 @@ fn resist(
             side: one.attack.side,
             multipliers: one.multipliers,
         }),
-        None => narrow(alloc, siege, asked, first, progress),
+        None => narrow(alloc, task, asked, first, progress),
     }
 }
 
 // Drops the extra cells that needn't be hidden, where guards hold against all attacks.
 fn narrow(
     alloc: Global,
-    siege: &Siege<'_>,
+    task: &ContributorTask<'_>,
     asked: &[(u32, Side)],
     first: &Hidden,
     extended: Progress,
 ) -> Result<Guarded, GuardStop>
-    requires each { length extended.hidden.flags ≡ siege.now.system.now.cells }
-    requires first { IsPermitted siege.now.cells.now first.now.flags }
-    requires permitted { IsPermitted siege.now.cells.now extended.hidden.flags }
-    requires asked { asked.now ≡ asked_of 0 siege.now.cells.now }
-    requires holds { HoldGuards (case_of siege.now) siege.now.soles.now extended.hidden.flags siege.now.attacks.now
+    requires each { length extended.hidden.flags ≡ task.now.system.now.cells }
+    requires first { IsPermitted task.now.cells.now first.now.flags }
+    requires permitted { IsPermitted task.now.cells.now extended.hidden.flags }
+    requires asked { asked.now ≡ asked_of 0 task.now.cells.now }
+    requires holds { HoldGuards (case_of task.now) task.now.soles.now extended.hidden.flags task.now.attacks.now
         extended.guards }
-    requires extended { IsExtendedUpTo siege.now (length siege.now.attacks.now) first.now.flags extended }
-    ensures guarded { IfOk result (IsOutcome siege.now first.now.flags) }
-    ensures stopped { IfErr result (IsStopAsTold (case_of siege.now) siege.now.soles.now siege.now.prices.now
-        siege.now.attacks.now first.now.flags siege.now.limit) }
+    requires extended { IsExtendedUpTo task.now (length task.now.attacks.now) first.now.flags extended }
+    ensures guarded { IfOk result (IsOutcome task.now first.now.flags) }
+    ensures stopped { IfErr result (IsStopAsTold (case_of task.now) task.now.soles.now task.now.prices.now
+        task.now.attacks.now first.now.flags task.now.limit) }
 {
     let mut progress = extended;
     let mut found = Findings {
         needs: Items::empty(alloc),
         dropped: Items::empty(alloc),
     };
-    let outcome = try_all(alloc, siege, first, &mut progress, &mut found);
-    if let Err(halt) = outcome {
-        return Err(stop_with(alloc, halt, progress.extras, found.dropped));
+    let outcome = try_all(alloc, task, first, &mut progress, &mut found);
+    if let Err(row_fault) = outcome {
+        return Err(stop_with(alloc, row_fault, progress.extras, found.dropped));
     }
     match extra_of(alloc, asked, progress.guards.as_slice(), found.needs) {
         Ok(extra) => Ok(Guarded::Guards(extra)),

@@ -2,7 +2,7 @@ ghost use Rattle.std.specs.Prelude.{◌≡◌, ◌<◌, ◌++◌, ◌^◌, flat_
 ghost use Rattle.sdc_base.specs.Answers.{Gives};
 ghost use Rattle.attackers.specs.AttackOrder.{attacks_on, attacks_of};
 ghost use Rattle.attackers.specs.KnownCells as spec;
-ghost use Rattle.attackers.specs.ExtraFaults.{fault_of, attacks_fault};
+ghost use Rattle.attackers.specs.ExtraFaults.{extra_fault_of, attacks_fault};
 
 use crate::attack::Attack;
 use crate::faults::ExtraFault;
@@ -23,7 +23,7 @@ pub(crate) fn check_attacks(
     guards: &[WorldLine],
 ) -> Result<(), ExtraFault>
     requires { length cells.now < 2 ^ 32 }
-    ensures { Gives fault_of (λ u. u) result
+    ensures { Gives extra_fault_of (λ u. u) result
         (attacks_fault cells.now soles.now (worlds.now ++ guards.now) (attacks_of cells.now soles.now)) }
 {
     let rows = sole_rows(alloc, soles)?;

@@ -2,7 +2,7 @@ ghost use Rattle.std.specs.Prelude.{◌≡◌, ◌<◌, ◌++◌, ◌∷◌, [],
 ghost use Rattle.repair.specs.HidingOrder.{hide};
 
 use crate::asking::questions_about_more;
-use crate::siege::Siege;
+use crate::contributor_task::ContributorTask;
 use certificate::{ExtraNeed, WorldLine};
 use kept_questions::KeptQuestions;
 use sdc_base::{Hidden, Items, Memory};
@@ -31,13 +31,13 @@ impl Progress {
     }
 
     /// Keeps questions about the cells that are hidden now, which are those of before and more.
-    pub(crate) fn keep_questions(&mut self, alloc: Global, siege: &Siege<'_>)
+    pub(crate) fn keep_questions(&mut self, alloc: Global, task: &ContributorTask<'_>)
         ensures flags { self.new.hidden.flags ≡ self.old.hidden.flags }
         ensures guards { self.new.guards ≡ self.old.guards }
         ensures extras { self.new.extras ≡ self.old.extras }
     {
         let kept = self.kept.take();
-        self.kept = questions_about_more(alloc, siege, &self.hidden, kept);
+        self.kept = questions_about_more(alloc, task, &self.hidden, kept);
     }
 
     /// Hides an extra cell, and keeps its reason.

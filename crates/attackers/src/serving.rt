@@ -2,13 +2,13 @@ ghost use Rattle.std.specs.Prelude.{◌≡◌, ◌+◌, ◌<◌, [], List, Bool,
 ghost use Rattle.sdc_base.specs.HiddenSets.{is_hidden, IsPermitted};
 ghost use Rattle.repair.specs.LevelQuestions.{HasCause};
 ghost use Rattle.attackers.specs.KnownCells.{without_known, target_of, IsAttack};
-ghost use Rattle.attackers.specs.Sieges.{case_of, IsAnswerAgainst, IsReadySet, AreHeldBefore, IsExtendedUpTo, IsExtensionProgress, IsRefutedAt, IsStep, AreHeldOr, IsAskedOf, IsHalted};
+ghost use Rattle.attackers.specs.ContributorTasks.{case_of, IsAnswerAgainst, IsReadySet, AreHeldBefore, IsExtendedUpTo, IsExtensionProgress, IsRefutedAt, IsStep, AreHeldOr, IsAskedOf, IsHalted};
 
 use crate::asking::{ask_against, subject_against};
 use crate::attack::{Attack, UnguardedAttack};
+use crate::contributor_task::ContributorTask;
 use crate::lines::is_served;
 use crate::progress::Progress;
-use crate::siege::Siege;
 use certificate::{ExtraNeed, WorldLine};
 use interval_audit::AskFault;
 use kept_questions::{KeptAnswer, KeptQuestions};
@@ -18,7 +18,7 @@ use worlds::Multipliers;
 
 /// Why a question has no answer, and whose row it was about.
 #[derive(Drop)]
-pub(crate) struct Halt {
+pub(crate) struct RowFault {
     pub(crate) fault: AskFault,
     pub(crate) row: u32,
 }
@@ -37,20 +37,21 @@ pub(crate) enum Step {
 // Guards against all attacks in their order, hiding extra cells on the way: one that can't be met, if there is one.
 pub(crate) fn guard_all(
     alloc: Global,
-    siege: &Siege<'_>,
+    task: &ContributorTask<'_>,
     progress: &mut Progress,
-) -> Result<Option<UnguardedAttack>, Halt>
-    requires ready { IsReadySet siege.now progress.old.hidden.flags }
+) -> Result<Option<UnguardedAttack>, RowFault>
+    requires ready { IsReadySet task.now progress.old.hidden.flags }
     requires no_guards { progress.old.guards ≡ [] }
     requires no_extras { progress.old.extras ≡ [] }
-    ensures ready { IsReadySet siege.now progress.new.hidden.flags }
-    ensures ok { IfOk result (λ found. AreHeldOr siege.now (length siege.now.attacks.now) progress.new found) }
-    ensures extended { IfOk result (λ _. IsExtendedUpTo siege.now (length siege.now.attacks.now)
+    ensures ready { IsReadySet task.now progress.new.hidden.flags }
+    ensures ok { IfOk result (λ found. AreHeldOr task.now (length task.now.attacks.now) progress.new found) }
+    ensures extended { IfOk result (λ _. IsExtendedUpTo task.now (length task.now.attacks.now)
         progress.old.hidden.flags progress.new) }
-    ensures err { IfErr result (λ halt. IsHalted siege.now progress.old.hidden.flags progress.new halt.fault halt.row) }
+    ensures err { IfErr result
+        (λ row_fault. IsHalted task.now progress.old.hidden.flags progress.new row_fault.fault row_fault.row) }
 {
-    'places: for place in 0..siege.attacks.len() {
-        let found = guard_at(alloc, siege, place, progress)?;
+    'places: for place in 0..task.attacks.len() {
+        let found = guard_at(alloc, task, place, progress)?;
         if let Some(one) = found {
             return Ok(Some(one));
         }
@@ -61,23 +62,24 @@ pub(crate) fn guard_all(
 // Guards against the attack at a place, hiding an extra cell each time that none serves.
 fn guard_at(
     alloc: Global,
-    siege: &Siege<'_>,
+    task: &ContributorTask<'_>,
     place: usize,
     progress: &mut Progress,
-) -> Result<Option<UnguardedAttack>, Halt>
-    requires place { place < length siege.now.attacks.now }
-    requires ready { IsReadySet siege.now progress.old.hidden.flags }
-    requires held { AreHeldBefore siege.now place progress.old }
-    ensures ready { IsReadySet siege.now progress.new.hidden.flags }
-    ensures extended { IsExtensionProgress siege.now place progress.old progress.new }
-    ensures ok { IfOk result (λ found. AreHeldOr siege.now (place + 1) progress.new found) }
-    ensures err { IfErr result (λ halt. IsAskedOf siege.now progress.new.hidden.flags halt.fault halt.row place) }
+) -> Result<Option<UnguardedAttack>, RowFault>
+    requires place { place < length task.now.attacks.now }
+    requires ready { IsReadySet task.now progress.old.hidden.flags }
+    requires held { AreHeldBefore task.now place progress.old }
+    ensures ready { IsReadySet task.now progress.new.hidden.flags }
+    ensures extended { IsExtensionProgress task.now place progress.old progress.new }
+    ensures ok { IfOk result (λ found. AreHeldOr task.now (place + 1) progress.new found) }
+    ensures err { IfErr result
+        (λ row_fault. IsAskedOf task.now progress.new.hidden.flags row_fault.fault row_fault.row place) }
 {
     'extras: loop {
-        let step = guard_once(alloc, siege, place, progress)?;
+        let step = guard_once(alloc, task, place, progress)?;
         match step {
             Step::Served => return Ok(None),
-            Step::Extended => progress.keep_questions(alloc, siege),
+            Step::Extended => progress.keep_questions(alloc, task),
             Step::Cannot(one) => return Ok(Some(one)),
         }
     }
@@ -87,32 +89,33 @@ fn guard_at(
 // finds that no hidden set guards against it.
 fn guard_once(
     alloc: Global,
-    siege: &Siege<'_>,
+    task: &ContributorTask<'_>,
     place: usize,
     progress: &mut Progress,
-) -> Result<Step, Halt>
-    requires place { place < length siege.now.attacks.now }
-    requires ready { IsReadySet siege.now progress.old.hidden.flags }
-    requires held { AreHeldBefore siege.now place progress.old }
-    ensures ready { IsReadySet siege.now progress.new.hidden.flags }
-    ensures extended { IsExtensionProgress siege.now place progress.old progress.new }
-    ensures ok { IfOk result (λ step. IsStep siege.now place progress.old progress.new step) }
-    ensures err { IfErr result (λ halt. IsAskedOf siege.now progress.new.hidden.flags halt.fault halt.row place) }
+) -> Result<Step, RowFault>
+    requires place { place < length task.now.attacks.now }
+    requires ready { IsReadySet task.now progress.old.hidden.flags }
+    requires held { AreHeldBefore task.now place progress.old }
+    ensures ready { IsReadySet task.now progress.new.hidden.flags }
+    ensures extended { IsExtensionProgress task.now place progress.old progress.new }
+    ensures ok { IfOk result (λ step. IsStep task.now place progress.old progress.new step) }
+    ensures err { IfErr result
+        (λ row_fault. IsAskedOf task.now progress.new.hidden.flags row_fault.fault row_fault.row place) }
 {
-    let attack = attack_at(siege, place);
-    if is_served(siege.cells, siege.soles, attack, progress.guards.as_slice()) {
+    let attack = attack_at(task, place);
+    if is_served(task.cells, task.soles, attack, progress.guards.as_slice()) {
         return Ok(Step::Served);
     }
     let answer = answer_against(
         alloc,
-        siege,
+        task,
         progress.hidden.flags.as_slice(),
         attack,
         &mut progress.kept,
     )?;
-    match step_by(alloc, siege, attack, place, answer, progress) {
+    match step_by(alloc, task, attack, place, answer, progress) {
         Ok(step) => Ok(step),
-        Err(_) => Err(Halt {
+        Err(_) => Err(RowFault {
             fault: AskFault::Memory,
             row: attack.row,
         }),
@@ -120,35 +123,35 @@ fn guard_once(
 }
 
 /// The attack at a place.
-pub(crate) fn attack_at(siege: &Siege<'_>, place: usize) -> Attack
-    requires { place < length siege.now.attacks.now }
-    ensures stands { slice_get siege.now.attacks.now place ≡ Some result }
-    ensures is_attack { IsAttack siege.now.cells.now siege.now.soles.now result }
-    ensures inside { result.cell < length siege.now.cells.now }
-    ensures hidden { (flags : List Bool) → IsPermitted siege.now.cells.now flags → is_hidden flags result.cell ≡ true }
+pub(crate) fn attack_at(task: &ContributorTask<'_>, place: usize) -> Attack
+    requires { place < length task.now.attacks.now }
+    ensures stands { slice_get task.now.attacks.now place ≡ Some result }
+    ensures is_attack { IsAttack task.now.cells.now task.now.soles.now result }
+    ensures inside { result.cell < length task.now.cells.now }
+    ensures hidden { (flags : List Bool) → IsPermitted task.now.cells.now flags → is_hidden flags result.cell ≡ true }
 {
-    siege.attacks[place]
+    task.attacks[place]
 }
 
 /// What asking about an attack comes to.
 pub(crate) fn answer_against(
     alloc: Global,
-    siege: &Siege<'_>,
+    task: &ContributorTask<'_>,
     flags: &[bool],
     attack: Attack,
     kept: &mut Option<KeptQuestions>,
-) -> Result<KeptAnswer, Halt>
-    requires each { length flags.now ≡ siege.now.system.now.cells }
-    requires is_attack { IsAttack siege.now.cells.now siege.now.soles.now attack }
+) -> Result<KeptAnswer, RowFault>
+    requires each { length flags.now ≡ task.now.system.now.cells }
+    requires is_attack { IsAttack task.now.cells.now task.now.soles.now attack }
     requires hidden { is_hidden flags.now attack.cell ≡ true }
-    ensures ok { IfOk result (IsAnswerAgainst (case_of siege.now) siege.now.soles.now flags.now attack) }
-    ensures err { IfErr result (λ halt. HasCause siege.now.system.now siege.now.cells.now
-        (without_known siege.now.soles.now attack.row flags.now) (target_of attack) siege.now.limit halt.fault) }
-    ensures row { IfErr result (λ halt. halt.row ≡ attack.row) }
+    ensures ok { IfOk result (IsAnswerAgainst (case_of task.now) task.now.soles.now flags.now attack) }
+    ensures err { IfErr result (λ row_fault. HasCause task.now.system.now task.now.cells.now
+        (without_known task.now.soles.now attack.row flags.now) (target_of attack) task.now.limit row_fault.fault) }
+    ensures row { IfErr result (λ row_fault. row_fault.row ≡ attack.row) }
 {
-    match ask_against(alloc, siege, flags, attack, kept) {
+    match ask_against(alloc, task, flags, attack, kept) {
         Ok(answer) => Ok(answer),
-        Err(fault) => Err(Halt {
+        Err(fault) => Err(RowFault {
             fault,
             row: attack.row,
         }),
@@ -159,19 +162,19 @@ pub(crate) fn answer_against(
 // guards against it.
 fn step_by(
     alloc: Global,
-    siege: &Siege<'_>,
+    task: &ContributorTask<'_>,
     attack: Attack,
     place: usize,
     answer: KeptAnswer,
     progress: &mut Progress,
 ) -> Result<Step, Memory>
-    requires ready { IsReadySet siege.now progress.old.hidden.flags }
-    requires held { AreHeldBefore siege.now place progress.old }
-    requires stands { slice_get siege.now.attacks.now place ≡ Some attack }
-    requires answered { IsAnswerAgainst (case_of siege.now) siege.now.soles.now progress.old.hidden.flags attack answer }
-    ensures ready { IsReadySet siege.now progress.new.hidden.flags }
-    ensures extended { IsExtensionProgress siege.now place progress.old progress.new }
-    ensures ok { IfOk result (λ step. IsStep siege.now place progress.old progress.new step) }
+    requires ready { IsReadySet task.now progress.old.hidden.flags }
+    requires held { AreHeldBefore task.now place progress.old }
+    requires stands { slice_get task.now.attacks.now place ≡ Some attack }
+    requires answered { IsAnswerAgainst (case_of task.now) task.now.soles.now progress.old.hidden.flags attack answer }
+    ensures ready { IsReadySet task.now progress.new.hidden.flags }
+    ensures extended { IsExtensionProgress task.now place progress.old progress.new }
+    ensures ok { IfOk result (λ step. IsStep task.now place progress.old progress.new step) }
     ensures err { OnErr result (progress.new.hidden.flags ≡ progress.old.hidden.flags) }
 {
     match answer {
@@ -184,7 +187,7 @@ fn step_by(
             Ok(Step::Served)
         }
         KeptAnswer::Stops(multipliers) => {
-            extend(alloc, siege, attack, place, multipliers, progress)
+            extend(alloc, task, attack, place, multipliers, progress)
         }
     }
 }
@@ -192,23 +195,23 @@ fn step_by(
 // Hides the cheapest cell that would break the multipliers of an attack, or finds that there is none.
 fn extend(
     alloc: Global,
-    siege: &Siege<'_>,
+    task: &ContributorTask<'_>,
     attack: Attack,
     place: usize,
     multipliers: Multipliers,
     progress: &mut Progress,
 ) -> Result<Step, Memory>
-    requires ready { IsReadySet siege.now progress.old.hidden.flags }
-    requires held { AreHeldBefore siege.now place progress.old }
-    requires refuted { IsRefutedAt (case_of siege.now) siege.now.soles.now siege.now.attacks.now
+    requires ready { IsReadySet task.now progress.old.hidden.flags }
+    requires held { AreHeldBefore task.now place progress.old }
+    requires refuted { IsRefutedAt (case_of task.now) task.now.soles.now task.now.attacks.now
         progress.old.hidden.flags place attack multipliers }
-    ensures ready { IsReadySet siege.now progress.new.hidden.flags }
-    ensures extended { IsExtensionProgress siege.now place progress.old progress.new }
-    ensures ok { IfOk result (λ step. IsStep siege.now place progress.old progress.new step) }
+    ensures ready { IsReadySet task.now progress.new.hidden.flags }
+    ensures extended { IsExtensionProgress task.now place progress.old progress.new }
+    ensures ok { IfOk result (λ step. IsStep task.now place progress.old progress.new step) }
     ensures err { OnErr result (progress.new.hidden.flags ≡ progress.old.hidden.flags) }
 {
     let flags = progress.hidden.flags.as_slice();
-    let found = subject_against(alloc, siege, flags, attack, &multipliers)?;
+    let found = subject_against(alloc, task, flags, attack, &multipliers)?;
     match found {
         None => Ok(Step::Cannot(UnguardedAttack {
             attack,

@@ -3,7 +3,7 @@ ghost use Rattle.attackers.specs.GuardStops.{list_with_fault, row_with_fault};
 ghost use Rattle.attackers.specs.WholeGuards.{IsWholeGuardStop};
 
 use crate::extra::{Against, GuardStop};
-use crate::serving::Halt;
+use crate::serving::RowFault;
 use certificate::ExtraNeed;
 use interval_audit::AskFault;
 use sdc_base::Items;
@@ -12,17 +12,17 @@ use std::alloc::Global;
 // Guarding that stopped with these lists; under want of memory both are empty, and the row is 0.
 pub(crate) fn stop_with(
     alloc: Global,
-    halt: Halt,
+    row_fault: RowFault,
     extras: Items<ExtraNeed>,
     dropped: Items<u32>,
 ) -> GuardStop
-    ensures fault { result.fault ≡ halt.fault }
-    ensures row { result.against.row ≡ row_with_fault halt.fault halt.row }
-    ensures extras { result.against.extras ≡ list_with_fault halt.fault extras }
-    ensures dropped { result.against.dropped ≡ list_with_fault halt.fault dropped }
+    ensures fault { result.fault ≡ row_fault.fault }
+    ensures row { result.against.row ≡ row_with_fault row_fault.fault row_fault.row }
+    ensures extras { result.against.extras ≡ list_with_fault row_fault.fault extras }
+    ensures dropped { result.against.dropped ≡ list_with_fault row_fault.fault dropped }
 {
-    let row = halt.row;
-    match halt.fault {
+    let row = row_fault.row;
+    match row_fault.fault {
         AskFault::Memory => out_of_memory(alloc),
         other => GuardStop {
             fault: other,

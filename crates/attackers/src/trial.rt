@@ -1,11 +1,11 @@
 ghost use Rattle.std.specs.Prelude.{◌<◌, length, take, IfOk, IfErr};
 ghost use Rattle.repair.specs.HidingOrder.{hide};
-ghost use Rattle.attackers.specs.Sieges.{AreGuardsOf, IsAskedOf};
+ghost use Rattle.attackers.specs.ContributorTasks.{AreGuardsOf, IsAskedOf};
 ghost use Rattle.attackers.specs.Dropping.{renewed_guards, IsRenewal, IsTrial, HasFaultOf};
 
 use crate::attempt::Attempt;
 use crate::lines::{is_served, is_still_served};
-use crate::serving::{Halt, answer_against, attack_at};
+use crate::serving::{RowFault, answer_against, attack_at};
 use certificate::{ExtraNeed, WorldLine};
 use interval_audit::AskFault;
 use kept_questions::{KeptAnswer, KeptQuestions};
@@ -26,16 +26,16 @@ pub(crate) fn ask_anew(
     alloc: Global,
     attempt: &Attempt<'_, '_>,
     kept: &mut Option<KeptQuestions>,
-) -> Result<Trial, Halt>
-    requires holds { AreGuardsOf attempt.now.siege.now (hide attempt.now.hidden.now.flags attempt.now.cell)
-        attempt.now.siege.now.attacks.now attempt.now.guards.now }
-    ensures ok { IfOk result (IsTrial attempt.now.siege.now attempt.now.hidden.now.flags attempt.now.cell
+) -> Result<Trial, RowFault>
+    requires holds { AreGuardsOf attempt.now.task.now (hide attempt.now.hidden.now.flags attempt.now.cell)
+        attempt.now.task.now.attacks.now attempt.now.guards.now }
+    ensures ok { IfOk result (IsTrial attempt.now.task.now attempt.now.hidden.now.flags attempt.now.cell
         attempt.now.guards.now) }
-    ensures err { IfErr result (λ halt. HasFaultOf attempt.now.siege.now attempt.now.hidden.now.flags halt.fault
-        halt.row) }
+    ensures err { IfErr result
+        (λ row_fault. HasFaultOf attempt.now.task.now attempt.now.hidden.now.flags row_fault.fault row_fault.row) }
 {
     let mut news = Items::empty(alloc);
-    'places: for place in 0..attempt.siege.attacks.len() {
+    'places: for place in 0..attempt.task.attacks.len() {
         let renewal = renew_attack(alloc, attempt, place, &mut news, kept)?;
         if let Some(need) = renewal {
             return Ok(Trial::Refused(need));
@@ -51,27 +51,27 @@ fn renew_attack(
     place: usize,
     news: &mut Items<WorldLine>,
     kept: &mut Option<KeptQuestions>,
-) -> Result<Option<ExtraNeed>, Halt>
-    requires place { place < length attempt.now.siege.now.attacks.now }
-    requires holds { AreGuardsOf attempt.now.siege.now attempt.now.hidden.now.flags
-        (take place attempt.now.siege.now.attacks.now)
+) -> Result<Option<ExtraNeed>, RowFault>
+    requires place { place < length attempt.now.task.now.attacks.now }
+    requires holds { AreGuardsOf attempt.now.task.now attempt.now.hidden.now.flags
+        (take place attempt.now.task.now.attacks.now)
         (renewed_guards attempt.now.cell attempt.now.guards.now news.old) }
-    ensures ok { IfOk result (IsRenewal attempt.now.siege.now attempt.now.hidden.now.flags attempt.now.cell
+    ensures ok { IfOk result (IsRenewal attempt.now.task.now attempt.now.hidden.now.flags attempt.now.cell
         attempt.now.guards.now place news.new) }
-    ensures err { IfErr result (λ halt. IsAskedOf attempt.now.siege.now attempt.now.hidden.now.flags halt.fault
-        halt.row place) }
+    ensures err { IfErr result (λ row_fault. IsAskedOf attempt.now.task.now attempt.now.hidden.now.flags row_fault.fault
+        row_fault.row place) }
 {
-    let siege = attempt.siege;
+    let task = attempt.task;
     let cell = attempt.cell;
-    let attack = attack_at(siege, place);
-    if is_still_served(siege.cells, siege.soles, attack, cell, attempt.guards) {
+    let attack = attack_at(task, place);
+    if is_still_served(task.cells, task.soles, attack, cell, attempt.guards) {
         return Ok(None);
     }
-    if is_served(siege.cells, siege.soles, attack, news.as_slice()) {
+    if is_served(task.cells, task.soles, attack, news.as_slice()) {
         return Ok(None);
     }
     let flags = attempt.hidden.flags.as_slice();
-    let answer = answer_against(alloc, siege, flags, attack, kept)?;
+    let answer = answer_against(alloc, task, flags, attack, kept)?;
     match answer {
         KeptAnswer::Reaches(world) => {
             let line = WorldLine {
@@ -81,7 +81,7 @@ fn renew_attack(
             };
             match news.push(line) {
                 Ok(()) => Ok(None),
-                Err(_) => Err(Halt {
+                Err(_) => Err(RowFault {
                     fault: AskFault::Memory,
                     row: attack.row,
                 }),

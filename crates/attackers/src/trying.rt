@@ -1,14 +1,14 @@
 ghost use Rattle.std.specs.Prelude.{◌≡◌, ◌+◌, ◌<◌, ◌++◌, ◌∷◌, [], ℕ, List, true, length, IfErr, OnOk};
 ghost use Rattle.sdc_base.specs.HiddenSets.{is_hidden, IsPermitted};
 ghost use Rattle.repair.specs.HidingOrder.{hide};
-ghost use Rattle.attackers.specs.Sieges.{case_of, HoldGuards};
+ghost use Rattle.attackers.specs.ContributorTasks.{case_of, HoldGuards};
 ghost use Rattle.attackers.specs.Dropping.{is_beside, renewed_guards, HasTried, TriesStopFor, IsCellTrial, IsCellTrialStop};
 
 use crate::attempt::Attempt;
+use crate::contributor_task::ContributorTask;
 use crate::lines::drop_moved;
 use crate::progress::Progress;
-use crate::serving::Halt;
-use crate::siege::Siege;
+use crate::serving::RowFault;
 use crate::trial::{Trial, ask_anew};
 use certificate::{ExtraNeed, WorldLine};
 use interval_audit::AskFault;
@@ -27,34 +27,35 @@ pub(crate) struct Findings {
 // Tries each extra cell as shown, in ascending order.
 pub(crate) fn try_all(
     alloc: Global,
-    siege: &Siege<'_>,
+    task: &ContributorTask<'_>,
     first: &Hidden,
     progress: &mut Progress,
     found: &mut Findings,
-) -> Result<(), Halt>
-    requires each { length progress.old.hidden.flags ≡ siege.now.system.now.cells }
-    requires first { IsPermitted siege.now.cells.now first.now.flags }
-    requires permitted { IsPermitted siege.now.cells.now progress.old.hidden.flags }
+) -> Result<(), RowFault>
+    requires each { length progress.old.hidden.flags ≡ task.now.system.now.cells }
+    requires first { IsPermitted task.now.cells.now first.now.flags }
+    requires permitted { IsPermitted task.now.cells.now progress.old.hidden.flags }
     requires within { (cell : ℕ) → is_hidden first.now.flags cell ≡ true
         → is_hidden progress.old.hidden.flags cell ≡ true }
-    requires holds { HoldGuards (case_of siege.now) siege.now.soles.now progress.old.hidden.flags
-        siege.now.attacks.now progress.old.guards }
+    requires holds { HoldGuards (case_of task.now) task.now.soles.now progress.old.hidden.flags
+        task.now.attacks.now progress.old.guards }
     requires no_needs { found.old.needs ≡ [] }
     requires none_dropped { found.old.dropped ≡ [] }
     ensures extras { progress.new.extras ≡ progress.old.extras }
-    ensures each { OnOk result (length progress.new.hidden.flags ≡ siege.now.system.now.cells) }
-    ensures permitted { OnOk result (IsPermitted siege.now.cells.now progress.new.hidden.flags) }
-    ensures ok { OnOk result (HasTried siege.now first.now.flags progress.old.hidden.flags
-        (length siege.now.cells.now) progress.new found.new) }
-    ensures err { IfErr result (λ halt. TriesStopFor siege.now first.now.flags progress.old.hidden.flags halt.fault
-        halt.row found.new.dropped) }
+    ensures each { OnOk result (length progress.new.hidden.flags ≡ task.now.system.now.cells) }
+    ensures permitted { OnOk result (IsPermitted task.now.cells.now progress.new.hidden.flags) }
+    ensures ok { OnOk result (HasTried task.now first.now.flags progress.old.hidden.flags
+        (length task.now.cells.now) progress.new found.new) }
+    ensures err { IfErr result
+        (λ row_fault. TriesStopFor task.now first.now.flags progress.old.hidden.flags row_fault.fault
+        row_fault.row found.new.dropped) }
 {
-    'cells: for number in 0..siege.cells.len() {
+    'cells: for number in 0..task.cells.len() {
         let cell = number as u32;
         if !is_extra(first, &progress.hidden, cell) {
             continue;
         }
-        try_one(alloc, siege, first, cell, progress, found)?;
+        try_one(alloc, task, first, cell, progress, found)?;
     }
     Ok(())
 }
@@ -70,33 +71,34 @@ fn is_extra(first: &Hidden, hidden: &Hidden, cell: u32) -> bool
 // Tries an extra cell as shown: drops it with new worlds, or hides it again and keeps the need.
 fn try_one(
     alloc: Global,
-    siege: &Siege<'_>,
+    task: &ContributorTask<'_>,
     first: &Hidden,
     cell: u32,
     progress: &mut Progress,
     found: &mut Findings,
-) -> Result<(), Halt>
-    requires inside { cell < length siege.now.cells.now }
+) -> Result<(), RowFault>
+    requires inside { cell < length task.now.cells.now }
     requires extra { is_beside first.now.flags progress.old.hidden.flags cell ≡ true }
-    requires each { length progress.old.hidden.flags ≡ siege.now.system.now.cells }
-    requires first { IsPermitted siege.now.cells.now first.now.flags }
-    requires permitted { IsPermitted siege.now.cells.now progress.old.hidden.flags }
-    requires holds { HoldGuards (case_of siege.now) siege.now.soles.now progress.old.hidden.flags
-        siege.now.attacks.now progress.old.guards }
+    requires each { length progress.old.hidden.flags ≡ task.now.system.now.cells }
+    requires first { IsPermitted task.now.cells.now first.now.flags }
+    requires permitted { IsPermitted task.now.cells.now progress.old.hidden.flags }
+    requires holds { HoldGuards (case_of task.now) task.now.soles.now progress.old.hidden.flags
+        task.now.attacks.now progress.old.guards }
     ensures extras { progress.new.extras ≡ progress.old.extras }
-    ensures each { OnOk result (length progress.new.hidden.flags ≡ siege.now.system.now.cells) }
-    ensures permitted { OnOk result (IsPermitted siege.now.cells.now progress.new.hidden.flags) }
-    ensures ok { OnOk result (IsCellTrial siege.now first.now.flags cell progress.old found.old progress.new
+    ensures each { OnOk result (length progress.new.hidden.flags ≡ task.now.system.now.cells) }
+    ensures permitted { OnOk result (IsPermitted task.now.cells.now progress.new.hidden.flags) }
+    ensures ok { OnOk result (IsCellTrial task.now first.now.flags cell progress.old found.old progress.new
         found.new) }
-    ensures err { IfErr result (λ halt. IsCellTrialStop siege.now first.now.flags cell progress.old found.old halt.fault
-        halt.row found.new.dropped) }
+    ensures err { IfErr result
+        (λ row_fault. IsCellTrialStop task.now first.now.flags cell progress.old found.old row_fault.fault
+        row_fault.row found.new.dropped) }
 {
     let Ok(()) = found.dropped.push(cell) else {
         return Err(out_of_memory());
     };
     progress.hidden.flags.set(cell as usize, false);
     let attempt = Attempt {
-        siege,
+        task,
         cell,
         hidden: &progress.hidden,
         guards: progress.guards.as_slice(),
@@ -109,10 +111,10 @@ fn try_one(
 }
 
 // Want of memory.
-fn out_of_memory() -> Halt
+fn out_of_memory() -> RowFault
     ensures { result.fault ≡ AskFault.Memory }
 {
-    Halt {
+    RowFault {
         fault: AskFault::Memory,
         row: 0,
     }
@@ -124,11 +126,11 @@ fn take_new(
     cell: u32,
     news: Items<WorldLine>,
     progress: &mut Progress,
-) -> Result<(), Halt>
+) -> Result<(), RowFault>
     ensures flags { progress.new.hidden.flags ≡ progress.old.hidden.flags }
     ensures extras { progress.new.extras ≡ progress.old.extras }
     ensures guards { OnOk result (progress.new.guards ≡ renewed_guards cell progress.old.guards news) }
-    ensures err { IfErr result (λ halt. halt.fault ≡ AskFault.Memory) }
+    ensures err { IfErr result (λ row_fault. row_fault.fault ≡ AskFault.Memory) }
 {
     match replace_guards(alloc, cell, news, &mut progress.guards) {
         Ok(()) => Ok(()),
@@ -166,7 +168,7 @@ fn put_back(
     need: ExtraNeed,
     progress: &mut Progress,
     found: &mut Findings,
-) -> Result<(), Halt>
+) -> Result<(), RowFault>
     requires { cell < length progress.old.hidden.flags }
     ensures flags { progress.new.hidden.flags ≡ hide progress.old.hidden.flags cell }
     ensures guards { progress.new.guards ≡ progress.old.guards }
@@ -174,7 +176,7 @@ fn put_back(
     ensures needs { OnOk result (found.new.needs ≡ found.old.needs ++ need ∷ []) }
     ensures dropped { OnOk result ((earlier : List ℕ) (last : ℕ) → found.old.dropped ≡ earlier ++ last ∷ []
         → found.new.dropped ≡ earlier) }
-    ensures err { IfErr result (λ halt. halt.fault ≡ AskFault.Memory) }
+    ensures err { IfErr result (λ row_fault. row_fault.fault ≡ AskFault.Memory) }
 {
     progress.hidden.flags.set(cell as usize, true);
     found.dropped.pop();

@@ -1,5 +1,5 @@
 ghost use Rattle.std.specs.Prelude.{◌≡◌, ◌≤ℤ◌, ◌^◌, All, IfNone, IfSome, pos, slice_get, Some, true};
-ghost use Rattle.sdc_base.specs.Grounds.{IsGround};
+ghost use Rattle.sdc_base.specs.Patterns.{IsPattern};
 ghost use Rattle.sdc_base.specs.HiddenSets.{is_hidden};
 ghost use Rattle.sdc_base.specs.declared.cell.Cell.{Cell as AnyCell};
 ghost use Rattle.sdc_base.specs.declared.side.Side.TheVariants.{Above, Below};
@@ -26,7 +26,7 @@ pub fn interval_from(
     cell: u32,
     ends: &TwoEnds,
 ) -> CellInterval
-    requires ground { IsGround system.now cells.now hidden.now.flags }
+    requires ground { IsPattern system.now cells.now hidden.now.flags }
     requires truths { All (λ cell. cell.truth ≤ℤ pos (10 ^ 29)) cells.now }
     requires hidden { is_hidden hidden.now.flags cell ≡ true }
     requires below { IsTrueEnd system.now cells.now hidden.now.flags cell Below ends.now.below }
@@ -43,7 +43,7 @@ pub fn interval_from(
 // The lower end of a cell's interval. No world takes a cell as far below its truth as is asked, since a truth is less
 // than that.
 fn low_end(system: &System, cells: &[Cell], hidden: &Hidden, cell: u32, below: &Answer) -> Ratio
-    requires ground { IsGround system.now cells.now hidden.now.flags }
+    requires ground { IsPattern system.now cells.now hidden.now.flags }
     requires truths { All (λ cell. cell.truth ≤ℤ pos (10 ^ 29)) cells.now }
     requires hidden { is_hidden hidden.now.flags cell ≡ true }
     requires below { IsTrueEnd system.now cells.now hidden.now.flags cell Below below.now }
@@ -61,7 +61,7 @@ fn low_end(system: &System, cells: &[Cell], hidden: &Hidden, cell: u32, below: &
 
 // The upper end of a cell's interval.
 fn high_end(system: &System, cells: &[Cell], hidden: &Hidden, cell: u32, above: &Answer) -> UpperEnd
-    requires ground { IsGround system.now cells.now hidden.now.flags }
+    requires ground { IsPattern system.now cells.now hidden.now.flags }
     requires truths { All (λ cell. cell.truth ≤ℤ pos (10 ^ 29)) cells.now }
     requires hidden { is_hidden hidden.now.flags cell ≡ true }
     requires above { IsTrueEnd system.now cells.now hidden.now.flags cell Above above.now }

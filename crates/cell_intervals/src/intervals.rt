@@ -1,5 +1,5 @@
 ghost use Rattle.std.specs.Prelude.{◌≡◌, ◌≤◌, ◌≤ℤ◌, ◌^◌, All, Bool, IfErr, IfOk, IfSome, List, pos, true, ℕ};
-ghost use Rattle.sdc_base.specs.Grounds.{IsGround};
+ghost use Rattle.sdc_base.specs.Patterns.{IsPattern};
 ghost use Rattle.sdc_base.specs.HiddenSets as sets;
 ghost use Rattle.sdc_base.specs.Signs.{AreSigns, HasNone};
 ghost use Rattle.interval_audit.specs.Ends.{IsIntervalCause};
@@ -41,7 +41,7 @@ pub fn intervals_of(
     hidden: &Hidden,
     limit: u64,
 ) -> Result<Items<CellInterval>, AskFault>
-    requires ground { IsGround system.now cells.now hidden.now.flags }
+    requires ground { IsPattern system.now cells.now hidden.now.flags }
     requires truths { All (λ cell. cell.truth ≤ℤ pos (10 ^ 29)) cells.now }
     requires limit { 1 ≤ limit }
     ensures intervals { IfOk result (AreIntervals system.now cells.now hidden.now.flags) }
@@ -69,7 +69,7 @@ fn found_intervals(
     hidden: &Hidden,
     limit: u64,
 ) -> Option<Items<CellInterval>>
-    requires ground { IsGround system.now cells.now hidden.now.flags }
+    requires ground { IsPattern system.now cells.now hidden.now.flags }
     requires truths { All (λ cell. cell.truth ≤ℤ pos (10 ^ 29)) cells.now }
     requires limit { 1 ≤ limit }
     ensures intervals { IfSome result (AreIntervals system.now cells.now hidden.now.flags) }
@@ -100,7 +100,7 @@ fn found_interval(
     cell: u32,
     limit: u64,
 ) -> Option<CellInterval>
-    requires ground { IsGround system.now cells.now hidden.now.flags }
+    requires ground { IsPattern system.now cells.now hidden.now.flags }
     requires truths { All (λ cell. cell.truth ≤ℤ pos (10 ^ 29)) cells.now }
     requires hidden { sets.is_hidden hidden.now.flags cell ≡ true }
     requires limit { 1 ≤ limit }
@@ -119,7 +119,7 @@ fn asked_intervals(
     hidden: &Hidden,
     limit: u64,
 ) -> Result<Items<CellInterval>, AskFault>
-    requires ground { IsGround system.now cells.now hidden.now.flags }
+    requires ground { IsPattern system.now cells.now hidden.now.flags }
     requires truths { All (λ cell. cell.truth ≤ℤ pos (10 ^ 29)) cells.now }
     requires limit { 1 ≤ limit }
     ensures intervals { IfOk result (AreIntervals system.now cells.now hidden.now.flags) }
@@ -150,7 +150,7 @@ fn interval_of(
     cell: u32,
     limit: u64,
 ) -> Result<CellInterval, AskFault>
-    requires ground { IsGround system.now cells.now hidden.now.flags }
+    requires ground { IsPattern system.now cells.now hidden.now.flags }
     requires truths { All (λ cell. cell.truth ≤ℤ pos (10 ^ 29)) cells.now }
     requires hidden { sets.is_hidden hidden.now.flags cell ≡ true }
     requires limit { 1 ≤ limit }

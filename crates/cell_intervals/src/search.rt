@@ -1,5 +1,5 @@
 ghost use Rattle.std.specs.Prelude.{◌≡◌, ◌<◌, ◌≤◌, IfSome, true, ℕ};
-ghost use Rattle.sdc_base.specs.Grounds.{IsGround};
+ghost use Rattle.sdc_base.specs.Patterns.{IsPattern};
 ghost use Rattle.sdc_base.specs.HiddenSets.{is_hidden};
 ghost use Rattle.sdc_base.specs.Signs.{HasNone};
 ghost use Rattle.sdc_base.specs.declared.side.Side.TheVariants.{Above, Below};
@@ -41,7 +41,7 @@ impl EndSearch {
         cells: &[Cell],
         hidden: &Hidden,
     ) -> Option<EndSearch>
-        requires ground { IsGround system.now cells.now hidden.now.flags }
+        requires ground { IsPattern system.now cells.now hidden.now.flags }
         ensures no_signs { IfSome result (λ _. HasNone system.now.relations) }
         ensures small { IfSome result (λ _. (cell : ℕ) → is_hidden hidden.now.flags cell ≡ true
             → HasSmallComponent system.now hidden.now.flags cell) }
@@ -72,7 +72,7 @@ impl EndSearch {
         cell: u32,
         limit: u64,
     ) -> Option<TwoEnds>
-        requires ground { IsGround system.now cells.now hidden.now.flags }
+        requires ground { IsPattern system.now cells.now hidden.now.flags }
         requires hidden { is_hidden hidden.now.flags cell ≡ true }
         requires limit { 1 ≤ limit }
         ensures below { IfSome result (λ ends. IsTrueEnd system.now cells.now hidden.now.flags cell Below ends.below) }
@@ -98,7 +98,7 @@ impl EndSearch {
         cell: u32,
         limit: u64,
     ) -> Option<TwoEnds>
-        requires ground { IsGround system.now cells.now hidden.now.flags }
+        requires ground { IsPattern system.now cells.now hidden.now.flags }
         requires hidden { is_hidden hidden.now.flags cell ≡ true }
         ensures below { IfSome result (λ ends. IsTrueEnd system.now cells.now hidden.now.flags cell Below ends.below) }
         ensures above { IfSome result (λ ends. IsTrueEnd system.now cells.now hidden.now.flags cell Above ends.above) }
@@ -146,7 +146,7 @@ impl EndSearch {
 
 // The searches over a hidden set with small components; none also for want of memory.
 fn searches_in(alloc: Global, system: &System, cells: &[Cell], hidden: &Hidden) -> Option<EndSearch>
-    requires ground { IsGround system.now cells.now hidden.now.flags }
+    requires ground { IsPattern system.now cells.now hidden.now.flags }
     ensures { IfSome result (λ _. (cell : ℕ) → is_hidden hidden.now.flags cell ≡ true
         → HasSmallComponent system.now hidden.now.flags cell) }
 {

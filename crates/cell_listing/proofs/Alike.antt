@@ -5,7 +5,7 @@ use Rattle.std.specs.Prelude.{All}
 use Rattle.sdc_base.specs.Cells.{cells_of}
 use Rattle.sdc_base.specs.Records.{Name}
 use Rattle.sdc_base.specs.TableText.{codes_of_place, line_text}
-use Rattle.sdc_base.specs.RuleLevels.{Figures, names, keep_of, looks_at, figures_of_facts, figures_in}
+use Rattle.sdc_base.specs.RuleLevels.{Figures, is_sensitive_by, keep_of, looks_at, figures_of_facts, figures_in}
 use Rattle.sdc_base.specs.Trees.{Tree}
 use Rattle.sdc_base.specs.declared.rows.Row.{Row}
 use Rattle.sdc_base.specs.declared.rule.Rule.{Rule}
@@ -18,9 +18,9 @@ use Rattle.apriori.specs.Settling.{SettledCell, told_of, figures_of, view_of_cel
 use Rattle.cost_rule.specs.Costs.{most_value}
 use Rattle.cost_rule.specs.declared.kind.CostKind.{CostKind}
 use Rattle.cost_rule.specs.declared.kind.CostKind.TheVariants as cost
-use Rattle.job_inputs.specs.SettledJobs.{SettledInputs, IsReadyJob, IsSettledOf}
+use Rattle.job_inputs.specs.ClassifiedJobs.{SettledInputs, IsReadyJob, IsSettledOf}
 use Rattle.job_inputs.specs.declared.described.DescribedJob.{DescribedJob}
-use Rattle.job_inputs.specs.declared.settled.SettledJob.{SettledJob}
+use Rattle.job_inputs.specs.declared.settled.ClassifiedJob.{ClassifiedJob}
 use Rattle.cell_listing.specs.ListedCells.{ListedCell, listed_cells, numbered_from, told_cells}
 use Rattle.cell_listing.specs.Reasons.{kind_word, naming_words, rule_word, with_stated}
 use Rattle.cell_listing.specs.Columns.{amount_text, bound_text, cell_fields, column_names, figure_fields, having_from, price_by, spaced}
@@ -39,8 +39,8 @@ pub two_kept : (rules : List Rule) → 2 ≤ keep_of rules
 two_kept rules = from_start 2 rules
 
 -- one rule says the same of both
-same_names : (kept : ℕ) (one : Rule) (cell other : Figures) → 2 ≤ kept → looks_at one ≤ kept → AgreeUpTo kept cell other → names one cell ≡ names one other
-same_names kept (rule.Freq n r) cell other two looks same = ap (λ f. names (rule.Freq n r) (record cell { freq = f })) same.freq
+same_names : (kept : ℕ) (one : Rule) (cell other : Figures) → 2 ≤ kept → looks_at one ≤ kept → AgreeUpTo kept cell other → is_sensitive_by one cell ≡ is_sensitive_by one other
+same_names kept (rule.Freq n r) cell other two looks same = ap (λ f. is_sensitive_by (rule.Freq n r) (record cell { freq = f })) same.freq
 same_names kept (rule.Nk n k) cell other two looks same = rw (same.truth, same.largest n looks) refl
 same_names kept (rule.Percent p) cell other two looks same = rw (same.truth, same.largest 1 (omega arith), same.largest 2 two) refl
 same_names kept (rule.Pq p q) cell other two looks same = rw (same.truth, same.largest 1 (omega arith), same.largest 2 two) refl
@@ -58,9 +58,9 @@ same_naming kept most [] cell other two enough same = refl
 same_naming kept most (one ∷ rules) cell other two enough same =
     let next : ℕ = max most (looks_at one) in
     let start : next ≤ fold (λ most one. max most (looks_at one)) next rules = from_start next rules in
-    let naming : names one cell ≡ names one other = same_names kept one cell other (omega arith) (omega arith) same in
+    let naming : is_sensitive_by one cell ≡ is_sensitive_by one other = same_names kept one cell other (omega arith) (omega arith) same in
     let rest : naming_words rules cell ≡ naming_words rules other = same_naming kept next rules cell other (omega arith) enough same in
-    naming-step one (names one cell) (names one other) (filter (λ r. names r cell) rules) (filter (λ r. names r other) rules) naming rest
+    naming-step one (is_sensitive_by one cell) (is_sensitive_by one other) (filter (λ r. is_sensitive_by r cell) rules) (filter (λ r. is_sensitive_by r other) rules) naming rest
 
 same_price : (kind : CostKind) (own : Option ℕ) (cell other : Figures) → cell.truth ≡ other.truth → cell.freq ≡ other.freq → price_by kind own cell ≡ price_by kind own other
 same_price kind (Some price) cell other truth freq = refl
@@ -120,7 +120,7 @@ same_lines line keep says trees rows scale first (name ∷ called) (mark ∷ mar
     (same_lines line keep says trees rows scale (first + 1) called marks settled (omega (arith, each)) (λ i n m here there. agree (suc i) n m here there))
 
 -- lines of the cells of a job are those of its settled inputs
-pub lines_alike : (names : DescribedJob → List ℕ) (line : DescribedJob → List Tree → ListedCell → List ℕ) → ((described : DescribedJob) (trees : List Tree) → SaysSame (keep_of described.job.rules.list) (line described trees)) → (job : SettledJob) (settled : SettledInputs)
+pub lines_alike : (names : DescribedJob → List ℕ) (line : DescribedJob → List Tree → ListedCell → List ℕ) → ((described : DescribedJob) (trees : List Tree) → SaysSame (keep_of described.job.rules.list) (line described trees)) → (job : ClassifiedJob) (settled : SettledInputs)
     → IsReadyJob job → IsSettledOf settled job
     → names job.described ++ flat_map (line job.described job.book.trees) (told_cells job) ≡ names settled.inputs.described ++ flat_map (line settled.inputs.described settled.inputs.records.trees) (listed_cells settled)
 lines_alike names line says job settled ready is =
@@ -141,14 +141,14 @@ lines_alike names line says job settled ready is =
     ∙ ap₂ (λ (trees : List Tree) (tables : List (List ℕ)). names described ++ flat_map (line described trees) (numbered_from 0 (cells_of trees tables) (figures_of trees (cells_of trees tables) rows scale) settled.cells)) is.book.trees is.book.tables
 
 -- the listing of a job is that of its settled inputs
-pub listed_alike : (job : SettledJob) (settled : SettledInputs) → IsReadyJob job → IsSettledOf settled job → listing_text job.described job.book.trees (told_cells job) ≡ listing_of settled
+pub listed_alike : (job : ClassifiedJob) (settled : SettledInputs) → IsReadyJob job → IsSettledOf settled job → listing_text job.described job.book.trees (told_cells job) ≡ listing_of settled
 unfolding listing_of
 listed_alike job settled ready is =
     lines_alike (λ described. line_text (column_names described)) cell_line
     (λ described trees number name one cell other same. ap line_text (same_fields described trees number name one cell other same)) job settled ready is
 
 -- the listing of a release is that of its settled inputs
-pub released_alike : (c : Certificate) (extra : Option Extra) (amounts : List ℤ) (job : SettledJob) (settled : SettledInputs) → IsReadyJob job → IsSettledOf settled job
+pub released_alike : (c : Certificate) (extra : Option Extra) (amounts : List ℤ) (job : ClassifiedJob) (settled : SettledInputs) → IsReadyJob job → IsSettledOf settled job
     → released_text job.described job.book.trees (outcome_at c extra amounts) (told_cells job) ≡ released_text settled.inputs.described settled.inputs.records.trees (outcome_at c extra amounts) (listed_cells settled)
 released_alike c extra amounts job settled ready is =
     lines_alike (λ described. line_text (column_names described ++ outcome_names)) (λ described trees. released_line described trees (outcome_at c extra amounts))

@@ -3,7 +3,7 @@ use Rattle.std.proofs.Common.{◌≡◌, ℕ, ◌==◌, Bool, true, false, List,
 use Rattle.std.proofs.lemmas.Bool.Decides.{nat_tests}
 use Rattle.std.specs.Prelude.{codes}
 use Rattle.std.proofs.lemmas.Slice.Eq.{bytes_eq-Decides}
-use Rattle.cell_listing.specs.Asked.{asked_stop, intervals_named, intervals_stop, is_asking, named_with, release_named, relations_named}
+use Rattle.cell_listing.specs.Asked.{asked_stop, job_and_file_for_intervals, intervals_stop, is_asking, named_with, job_for_release, job_for_relations}
 use Rattle.cell_listing.specs.Calls.{job_named}
 use Rattle.cell_listing.specs.declared.asked.AskStop.TheVariants as asked
 use Rattle.cell_listing.specs.declared.calls.ListStop.{ListStop}
@@ -23,15 +23,15 @@ alone_or_with option ([] ∷ word ∷ words) name is = refl
 alone_or_with option ((b ∷ rest) ∷ word ∷ words) name is = refl
 
 -- words that name a release name no job alone
-pub one_of_both : (words : List (List ℕ)) (name : List ℕ) → release_named words ≡ Some name → job_named words ≡ None
+pub one_of_both : (words : List (List ℕ)) (name : List ℕ) → job_for_release words ≡ Some name → job_named words ≡ None
 one_of_both words name is = alone_or_with (codes "--released") words name is
 
 -- words that ask for relations name no job alone
-pub no_job_alone : (words : List (List ℕ)) (name : List ℕ) → relations_named words ≡ Some name → job_named words ≡ None
+pub no_job_alone : (words : List (List ℕ)) (name : List ℕ) → job_for_relations words ≡ Some name → job_named words ≡ None
 no_job_alone words name is = alone_or_with (codes "--relations") words name is
 
 -- words that ask for relations ask for no release
-pub one_option : (words : List (List ℕ)) (name : List ℕ) → relations_named words ≡ Some name → release_named words ≡ None
+pub one_option : (words : List (List ℕ)) (name : List ℕ) → job_for_relations words ≡ Some name → job_for_release words ≡ None
 one_option [] name is = refl
 one_option ([] ∷ words) name is = refl
 one_option ((b ∷ rest) ∷ []) name is = refl
@@ -48,14 +48,14 @@ usage_alone list.Usage is = refl
 usage_alone (list.Inputs input) is = absurd cc
 
 -- words that ask for intervals name no job alone
-pub no_job_by_four : (words : List (List ℕ)) (names : List ℕ × List ℕ) → intervals_named words ≡ Some names → job_named words ≡ None
+pub no_job_by_four : (words : List (List ℕ)) (names : List ℕ × List ℕ) → job_and_file_for_intervals words ≡ Some names → job_named words ≡ None
 no_job_by_four [] names is = refl
 no_job_by_four ([] ∷ words) names is = refl
 no_job_by_four ((b ∷ rest) ∷ []) names is = absurd cc
 no_job_by_four ((b ∷ rest) ∷ word ∷ words) names is = refl
 
 -- nor with one option
-pub no_option_by_four : (option : List ℕ) (words : List (List ℕ)) (names : List ℕ × List ℕ) → intervals_named words ≡ Some names → named_with option words ≡ None
+pub no_option_by_four : (option : List ℕ) (words : List (List ℕ)) (names : List ℕ × List ℕ) → job_and_file_for_intervals words ≡ Some names → named_with option words ≡ None
 no_option_by_four option [] names is = refl
 no_option_by_four option ([] ∷ words) names is = refl
 no_option_by_four option ((b ∷ rest) ∷ []) names is = refl
@@ -77,7 +77,7 @@ four_words (a ∷ b ∷ c ∷ d ∷ []) name first second file p q r s size in0 
 four_words (a ∷ b ∷ c ∷ d ∷ e ∷ words) name first second file p q r s size in0 in1 in2 in3 = absurd (omega (arith, size))
 
 -- four words name what they ask for
-pub four_asked : (name first second file : List ℕ) → (if is_asking name first second file then Some (name, file) else None) ≡ intervals_named (name ∷ first ∷ second ∷ file ∷ [])
+pub four_asked : (name first second file : List ℕ) → (if is_asking name first second file then Some (name, file) else None) ≡ job_and_file_for_intervals (name ∷ first ∷ second ∷ file ∷ [])
 four_asked [] first second file = refl
 four_asked (b ∷ name) first second [] = let test : (length (b ∷ name) == 0) ≡ false = grind (arith, nat_tests) in rw test refl
 four_asked (b ∷ name) first second (d ∷ file) =
@@ -87,10 +87,10 @@ four_asked (b ∷ name) first second (d ∷ file) =
 
 -- four words that ask for intervals, and four that don't
 pub named_by_four : (words : List (List ℕ)) (name first second file p q r s : List ℕ) (test : Bool) → length words ≡ 4 → name ≡ get_or words 0 p → first ≡ get_or words 1 q → second ≡ get_or words 2 r → file ≡ get_or words 3 s
-    → is_asking name first second file ≡ test → (if test then Some (name, file) else None) ≡ intervals_named words
+    → is_asking name first second file ≡ test → (if test then Some (name, file) else None) ≡ job_and_file_for_intervals words
 named_by_four words name first second file p q r s test size in0 in1 in2 in3 is =
     ap (λ (t : Bool). if t then Some (name, file) else None) (sym is) ∙ four_asked name first second file
-    ∙ ap intervals_named (sym (four_words words name first second file p q r s size in0 in1 in2 in3))
+    ∙ ap job_and_file_for_intervals (sym (four_words words name first second file p q r s size in0 in1 in2 in3))
 
 -- a stop of a listing with intervals is no usage
 pub no_interval_usage : (stop : IntervalStop) → ◌≢◌ {A = Result (Vec ℕ Global) AskStop} (Err (intervals_stop stop)) (Err asked.Usage)

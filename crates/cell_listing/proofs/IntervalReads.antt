@@ -3,8 +3,8 @@ use Rattle.std.proofs.Common.{◌≡◌, ℕ, List, ◌++◌, Option, ℤ, refl,
 use Rattle.sdc_base.specs.TableText.{line_text}
 use Rattle.certificate.specs.declared.certificate.Certificate.{Certificate}
 use Rattle.certificate.specs.declared.extra.Extra.{Extra}
-use Rattle.job_inputs.specs.SettledJobs.{SettledInputs, IsReadyJob, IsSettledOf}
-use Rattle.job_inputs.specs.declared.settled.SettledJob.{SettledJob}
+use Rattle.job_inputs.specs.ClassifiedJobs.{SettledInputs, IsReadyJob, IsSettledOf}
+use Rattle.job_inputs.specs.declared.settled.ClassifiedJob.{ClassifiedJob}
 use Rattle.job_check.specs.Accepted.{IsAcceptedAs}
 use Rattle.job_check.specs.Reading.{IsReadyRelease}
 use Rattle.job_check.specs.ReleaseFiles.{ReleasedFiles}
@@ -22,7 +22,7 @@ use Rattle.cell_listing.proofs.Alike.{lines_alike, same_fields}
 use Rattle.cell_listing.proofs.ReleaseReads.{listing_by}
 
 -- the listing of a release with its intervals is that of its settled inputs
-intervals_alike : (c : Certificate) (extra : Option Extra) (amounts : List ℤ) (ranges : List CellRange) (job : SettledJob) (settled : SettledInputs) → IsReadyJob job → IsSettledOf settled job
+intervals_alike : (c : Certificate) (extra : Option Extra) (amounts : List ℤ) (ranges : List CellRange) (job : ClassifiedJob) (settled : SettledInputs) → IsReadyJob job → IsSettledOf settled job
     → interval_text job.described job.book.trees (outcome_at c extra amounts) ranges (told_cells job) ≡ interval_text settled.inputs.described settled.inputs.records.trees (outcome_at c extra amounts) ranges (listed_cells settled)
 intervals_alike c extra amounts ranges job settled ready is =
     lines_alike (λ described. line_text ((column_names described ++ outcome_names) ++ end_names)) (λ described trees. interval_line described trees (outcome_at c extra amounts) ranges)

@@ -8,13 +8,13 @@ use Rattle.sdc_base.specs.WhereTold.{WhereTold}
 use Rattle.plain_text.specs.declared.stop.Stop.{Stop}
 use Rattle.plain_text.specs.declared.stop.Stop.TheVariants as line
 use Rattle.office_io.specs.Files.{held_name}
-use Rattle.office_io.specs.Reading.{HasLookedFor, IsAbsent, IsTooLong, IsWhole}
+use Rattle.office_io.specs.Reading.{HasLookedFor, IsAbsent, IsTooLong, IsWholeFile}
 use Rattle.office_io.specs.Shelves.{HasOnlyRead, ShelfState}
 use Rattle.office_io.specs.declared.faults.FileFault.{FileFault}
 use Rattle.office_io.specs.declared.faults.FileFault.TheVariants as file
 use Rattle.job_inputs.specs.ReadFiles.{output_limit}
-use Rattle.job_inputs.specs.Reading.{HasCause, HasComeTo, HasOnlyLooked}
-use Rattle.job_inputs.specs.SettledJobs.{HasOnlyLookedOn}
+use Rattle.job_inputs.specs.Reading.{HasCause, ReachedFile, HasOnlyLooked}
+use Rattle.job_inputs.specs.ClassifiedJobs.{HasOnlyLookedOn}
 use Rattle.job_inputs.proofs.Causes.{file-looked, look-on}
 use Rattle.job_inputs.specs.declared.faults.Fault.{Fault}
 use Rattle.job_inputs.specs.declared.purpose.Purpose.TheVariants as purpose
@@ -84,7 +84,7 @@ reading_stops name file.Memory old new has = record {
   shelf = looked name old new has.looked_for has.only_read;
 }
 
-pub reading_ends : (name : List ℕ) (bytes : Vec ℕ Global) (old new : ShelfState) → IsWhole name output_limit bytes.items old new → HasLookedFor name output_limit old new → HasOnlyRead old new → IsFileRead name (Ok bytes) old new
+pub reading_ends : (name : List ℕ) (bytes : Vec ℕ Global) (old new : ShelfState) → IsWholeFile name output_limit bytes.items old new → HasLookedFor name output_limit old new → HasOnlyRead old new → IsFileRead name (Ok bytes) old new
 reading_ends name bytes old new whole for read = record {
   told = λ fs told. whole.file fs told;
   own = tt;
@@ -140,7 +140,7 @@ run_stops name file read e old mid new accepted it first second = record {
 
 -- the run where the release isn't accepted, or was not read to its end
 pub run_refused : (name file : List ℕ) (e : CheckStop) (old new : ShelfState) → WhereTold old.files (λ fs. IsReleaseCheckAnswer (released_of fs name) (Err e))
-    → WhereTold old.files (λ fs. (input : InputStop) → e ≡ check.Inputs input → HasComeTo {X = Unit {0}} (ReleaseComesTo fs name) (Err input) fs new) → HasOnlyLookedOn purpose.Release name old new
+    → WhereTold old.files (λ fs. (input : InputStop) → e ≡ check.Inputs input → ReachedFile {X = Unit {0}} (ReleaseComesTo fs name) (Err input) fs new) → HasOnlyLookedOn purpose.Release name old new
     → ((input : InputStop) → e ≡ check.Inputs input → HasCause {X = Unit {0}} (Err input) old new) → IsIntervalsRun name file (Err (stop.Release e)) old new
 run_refused name file e old new answers came_to looks cause =
     let run : IsReleasedRun name (Err e) old new = record {

@@ -2,7 +2,7 @@
 use Rattle.std.proofs.Common.{◌≡◌, ◌≢◌, ℕ, suc, ◌+◌, Bool, true, false, cond, ◌||◌, ◌==◌, is_some, List, [], ◌∷◌, length, map, filter, Option, None, Some, option_map, ℤ, refl, ap, subst, arith}
 use Rattle.sdc_base.specs.Kinds.{is_primary}
 use Rattle.sdc_base.specs.Records.{Name}
-use Rattle.sdc_base.specs.RuleLevels.{Figures, names, levels_up_to, upper_of, greater_number, rounded_up, wanted_level}
+use Rattle.sdc_base.specs.RuleLevels.{Figures, is_sensitive_by, levels_up_to, upper_of, greater_number, rounded_up, wanted_level}
 use Rattle.sdc_base.specs.declared.cell.Kind.TheVariants.{Primary, Free, Fixed}
 use Rattle.sdc_base.specs.declared.facts.Levels.{Levels}
 use Rattle.sdc_base.specs.declared.rule.Rule.{Rule}
@@ -27,7 +27,7 @@ prices_are_costs cost.One None facts = refl
 no_level : (rules : List Rule) (cell : Figures) → naming_words rules cell ≡ [] → upper_of rules cell ≡ None
 no_level [] cell h = refl
 no_level (one ∷ rules) cell h =
-    elim (names one cell) as (λ t. map rule_word (cond t (one ∷ filter (λ r. names r cell) rules) (filter (λ r. names r cell) rules)) ≡ []
+    elim (is_sensitive_by one cell) as (λ t. map rule_word (cond t (one ∷ filter (λ r. is_sensitive_by r cell) rules) (filter (λ r. is_sensitive_by r cell) rules)) ≡ []
     → cond t (Some (greater_number (rounded_up (wanted_level one cell)) (upper_of rules cell))) (upper_of rules cell) ≡ None) [
       | true ↦ λ named. absurd cc
       | false ↦ λ named. no_level rules cell named
@@ -37,8 +37,8 @@ no_level (one ∷ rules) cell h =
 no_name : (rules : List Rule) (cell : Figures) → upper_of rules cell ≡ None → naming_words rules cell ≡ []
 no_name [] cell h = refl
 no_name (one ∷ rules) cell h =
-    elim (names one cell) as (λ t. cond t (Some (greater_number (rounded_up (wanted_level one cell)) (upper_of rules cell))) (upper_of rules cell) ≡ None
-    → map rule_word (cond t (one ∷ filter (λ r. names r cell) rules) (filter (λ r. names r cell) rules)) ≡ []) [
+    elim (is_sensitive_by one cell) as (λ t. cond t (Some (greater_number (rounded_up (wanted_level one cell)) (upper_of rules cell))) (upper_of rules cell) ≡ None
+    → map rule_word (cond t (one ∷ filter (λ r. is_sensitive_by r cell) rules) (filter (λ r. is_sensitive_by r cell) rules)) ≡ []) [
       | true ↦ λ level. absurd cc
       | false ↦ λ level. no_name rules cell level
     ] h

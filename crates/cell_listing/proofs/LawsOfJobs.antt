@@ -14,20 +14,20 @@ use Rattle.linked_tables.specs.BookCells.{cells as cells_in}
 use Rattle.linked_tables.specs.declared.mark.Mark.{Mark}
 use Rattle.release_writer.specs.ShownCells.{open_truth}
 use Rattle.job_inputs.specs.Cells.{cells, figures}
-use Rattle.job_inputs.specs.SettledJobs.{SettledInputs, IsReadyJob, IsSettledOf}
+use Rattle.job_inputs.specs.ClassifiedJobs.{SettledInputs, IsReadyJob, IsSettledOf}
 use Rattle.job_inputs.specs.TabulatedBooks.{IsBookOf}
-use Rattle.job_inputs.specs.declared.settled.SettledJob.{SettledJob}
+use Rattle.job_inputs.specs.declared.settled.ClassifiedJob.{ClassifiedJob}
 use Rattle.cell_listing.specs.Laws.{ListingsCountAsReports, ShownAreValues}
 use Rattle.cell_listing.specs.ListedCells.{ListedCell, listed_cells}
 use Rattle.cell_listing.proofs.LawsOfCells.{count-primary}
 use Rattle.cell_listing.proofs.Numbered.{as_many, was_number}
 
 -- the cells of a job's book are those of its inputs
-same-cells : (job : SettledJob) (settled : SettledInputs) → IsSettledOf settled job → cells_in job.book ≡ cells settled.inputs
+same-cells : (job : ClassifiedJob) (settled : SettledInputs) → IsSettledOf settled job → cells_in job.book ≡ cells settled.inputs
 same-cells job settled is = ap₂ (λ (trees : List Tree) (tables : List (List ℕ)). cells_of trees tables) is.book.trees is.book.tables
 
 -- there is a settled cell for each
-all-settled : (job : SettledJob) (settled : SettledInputs) → IsReadyJob job → IsSettledOf settled job → length settled.cells ≡ length (cells settled.inputs)
+all-settled : (job : ClassifiedJob) (settled : SettledInputs) → IsReadyJob job → IsSettledOf settled job → length settled.cells ≡ length (cells settled.inputs)
 all-settled job settled ready is =
     ap (λ (all : List SettledCell). length all) (sym is.cells) ∙ length-map job.cells view_of_cell ∙ ready.settled ∙ ready.one_each ∙ ap (λ (all : List Name). length all) (same-cells job settled is)
 

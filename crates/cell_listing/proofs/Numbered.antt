@@ -8,8 +8,8 @@ use Rattle.sdc_base.specs.RuleLevels.{Figures, figures_of_facts}
 use Rattle.apriori.specs.Settling.{SettledCell, told_of, view_of_cell}
 use Rattle.linked_tables.specs.BookCells.{cells as cells_in}
 use Rattle.linked_tables.specs.declared.mark.Mark.{Mark}
-use Rattle.job_inputs.specs.SettledJobs.{IsReadyJob}
-use Rattle.job_inputs.specs.declared.settled.SettledJob.{SettledJob}
+use Rattle.job_inputs.specs.ClassifiedJobs.{IsReadyJob}
+use Rattle.job_inputs.specs.declared.settled.ClassifiedJob.{ClassifiedJob}
 use Rattle.cell_listing.specs.ListedCells.{ListedCell, numbered_from, told_cells}
 
 -- the cell at a place
@@ -72,7 +72,7 @@ was_number first (n ∷ names) (f ∷ facts) (c ∷ settled) (suc i) cell here =
     record { number = omega (arith, rest.number); name = rest.name; known = rest.known; settled_is = rest.settled_is }
 
 -- there is a line for each cell of the job's book
-pub told_size : (job : SettledJob) → IsReadyJob job → length (told_cells job) ≡ length (cells_in job.book)
+pub told_size : (job : ClassifiedJob) → IsReadyJob job → length (told_cells job) ≡ length (cells_in job.book)
 told_size job ready =
     as_many 0 (cells_in job.book) (told_of job.book.marks) (map view_of_cell job.cells)
     (length-map job.book.marks (λ (mark : Mark). figures_of_facts mark.facts) ∙ ready.one_each)

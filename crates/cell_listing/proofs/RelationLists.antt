@@ -5,17 +5,17 @@ use Rattle.std.proofs.lemmas.List.{length-append, map-append}
 use Rattle.std.proofs.lemmas.List.Elements.{All-append, All-cons, All-nil}
 use Rattle.sdc_base.specs.Relations.{Sum, relations_among}
 use Rattle.sdc_base.specs.Trees.{Tree}
-use Rattle.cell_listing.specs.ListedRelations.{AreRelationsOf, IsOneMore, IsSumFor, sum_listed}
+use Rattle.cell_listing.specs.ListedRelations.{AreRelationsOf, IsOneMore, IsSumFor, total_and_parts}
 use Rattle.cell_listing.specs.declared.listed_relations.ListedRelation.{ListedRelation}
 
 -- these relations are listed, numbered from 0, each for its variable
 pub record AreListed (trees : List Tree) (tables : List (List ℕ)) (sums : List Sum) (listed : List ListedRelation) : Type 0 where
-  pub sums_are : map sum_listed listed ≡ sums
+  pub sums_are : map total_and_parts listed ≡ sums
   pub numbers : map (λ relation. relation.number) listed ≡ range_with_len 0 (length listed)
-  pub variables : All (λ relation. IsSumFor trees tables (sum_listed relation) relation.variable) listed
+  pub variables : All (λ relation. IsSumFor trees tables (total_and_parts relation) relation.variable) listed
 
 pub none_listed : (trees : List Tree) (tables : List (List ℕ)) → AreListed trees tables [] []
-none_listed trees tables = record { sums_are = refl; numbers = refl; variables = All-nil (λ (relation : ListedRelation). IsSumFor trees tables (sum_listed relation) relation.variable) }
+none_listed trees tables = record { sums_are = refl; numbers = refl; variables = All-nil (λ (relation : ListedRelation). IsSumFor trees tables (total_and_parts relation) relation.variable) }
 
 -- numbers from one on, with the next
 range-more : (start n : ℕ) → range_with_len start (n + 1) ≡ range_with_len start n ++ (start + n) ∷ []
@@ -29,11 +29,11 @@ pub one_more : (trees : List Tree) (tables : List (List ℕ)) (sums : List Sum) 
 one_more trees tables sums sum listed new are is =
     let last : ListedRelation = record { number = length listed; total = sum.0; variable = is.variable; parts = sum.1 } in
     let number : ListedRelation → ℕ = λ relation. relation.number in
-    let P : ListedRelation → Type 0 = λ relation. IsSumFor trees tables (sum_listed relation) relation.variable in
+    let P : ListedRelation → Type 0 = λ relation. IsSumFor trees tables (total_and_parts relation) relation.variable in
     let count : length listed ≡ 0 + length listed = omega arith in
     let long : length new ≡ length listed + 1 = ap length is.added ∙ length-append listed (last ∷ []) in
     record {
-      sums_are = ap (map sum_listed) is.added ∙ map-append sum_listed listed (last ∷ []) ∙ ap (λ (front : List Sum). front ++ sum ∷ []) are.sums_are;
+      sums_are = ap (map total_and_parts) is.added ∙ map-append total_and_parts listed (last ∷ []) ∙ ap (λ (front : List Sum). front ++ sum ∷ []) are.sums_are;
       numbers = ap (map number) is.added ∙ map-append number listed (last ∷ []) ∙ ap (λ (front : List ℕ). front ++ length listed ∷ []) are.numbers ∙ ap (λ (k : ℕ). range_with_len 0 (length listed) ++ k ∷ []) count ∙ sym (range-more 0 (length listed)) ∙ ap (range_with_len 0) (sym long);
       variables = subst (All P) (sym is.added) (All-append P listed (last ∷ []) are.variables (All-cons P last [] is.its (All-nil P)));
     }

@@ -23,18 +23,18 @@ named_with option ((b ∷ name) ∷ word ∷ []) = if bytes_eq word option then 
 named_with option words = None
 
 -- the name of a job, where `--released` stands behind it
-abbrev pub release_named : List (List ℕ) → Option (List ℕ)
-release_named words = named_with (codes "--released") words
+abbrev pub job_for_release : List (List ℕ) → Option (List ℕ)
+job_for_release words = named_with (codes "--released") words
 
 -- the name of a job, where `--relations` stands behind it
-abbrev pub relations_named : List (List ℕ) → Option (List ℕ)
-relations_named words = named_with (codes "--relations") words
+abbrev pub job_for_relations : List (List ℕ) → Option (List ℕ)
+job_for_relations words = named_with (codes "--relations") words
 
 -- the names of a job and of a file, each of one byte or more, where `--released --intervals` stands between them
-abbrev pub intervals_named : List (List ℕ) → Option (List ℕ × List ℕ)
-intervals_named ((b ∷ name) ∷ first ∷ second ∷ (d ∷ file) ∷ []) =
+abbrev pub job_and_file_for_intervals : List (List ℕ) → Option (List ℕ × List ℕ)
+job_and_file_for_intervals ((b ∷ name) ∷ first ∷ second ∷ (d ∷ file) ∷ []) =
     if bytes_eq first (codes "--released") && bytes_eq second (codes "--intervals") then Some (b ∷ name, d ∷ file) else None
-intervals_named words = None
+job_and_file_for_intervals words = None
 
 -- two names of one byte or more have `--released --intervals` between them
 abbrev pub is_asking : List ℕ → List ℕ → List ℕ → List ℕ → Bool

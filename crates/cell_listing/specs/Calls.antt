@@ -5,8 +5,8 @@ use Rattle.sdc_base.specs.Answers.{Fails}
 use Rattle.office_io.specs.Files.{Files}
 use Rattle.office_io.specs.Shelves.{ShelfState}
 use Rattle.job_inputs.specs.Looks.{InputsComeTo}
-use Rattle.job_inputs.specs.Reading.{stopped_for, HasComeTo}
-use Rattle.job_inputs.specs.SettledJobs.{SettledInputs}
+use Rattle.job_inputs.specs.Reading.{stopped_for, ReachedFile}
+use Rattle.job_inputs.specs.ClassifiedJobs.{SettledInputs}
 use Rattle.job_inputs.specs.declared.faults.Fault.{Fault}
 use Rattle.job_inputs.specs.declared.purpose.Purpose.TheVariants as purpose
 use Rattle.job_inputs.specs.declared.stop.InputStop.{InputStop}
@@ -31,4 +31,4 @@ IsListingAnswer meant (Err (stop.Inputs input)) = Fails (stopped_for input) mean
 abbrev pub HasComeToInputs : List ℕ → Result (Vec ℕ Global) ListStop → Files → ShelfState → Type 0
 HasComeToInputs name answer files new =
     (e : InputStop) → answer ≡ Err (stop.Inputs e)
-    → HasComeTo {X = Unit {0}} (InputsComeTo purpose.Release files name) (Err e) files new
+    → ReachedFile {X = Unit {0}} (InputsComeTo purpose.Release files name) (Err e) files new

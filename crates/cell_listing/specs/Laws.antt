@@ -12,8 +12,8 @@ use Rattle.apriori.specs.declared.prior.Status.TheVariants.{Safe, Unsafe}
 use Rattle.cost_rule.specs.Costs.{price_of}
 use Rattle.cost_rule.specs.declared.kind.CostKind.{CostKind}
 use Rattle.release_writer.specs.ShownCells.{open_truth}
-use Rattle.job_inputs.specs.SettledJobs.{SettledInputs, IsReadyJob, IsSettledOf}
-use Rattle.job_inputs.specs.declared.settled.SettledJob.{SettledJob}
+use Rattle.job_inputs.specs.ClassifiedJobs.{SettledInputs, IsReadyJob, IsSettledOf}
+use Rattle.job_inputs.specs.declared.settled.ClassifiedJob.{ClassifiedJob}
 use Rattle.cell_listing.specs.ListedCells.{ListedCell, listed_cells}
 use Rattle.cell_listing.specs.Listings.{CountsAsReport}
 use Rattle.cell_listing.specs.Reasons.{naming_words}
@@ -40,12 +40,12 @@ PricesAreCosts =
 -- a listing has as many cells, and as many primary ones, as the report of a release counts
 abbrev pub ListingsCountAsReports : Type 0
 ListingsCountAsReports =
-    (settled : SettledInputs) (job : SettledJob) → IsReadyJob job → IsSettledOf settled job → CountsAsReport settled
+    (settled : SettledInputs) (job : ClassifiedJob) → IsReadyJob job → IsSettledOf settled job → CountsAsReport settled
 
 -- where a release shows a cell, it shows what stands as the value in the cell's line
 abbrev pub ShownAreValues : Type 0
 ShownAreValues =
-    (settled : SettledInputs) (job : SettledJob) (flags : List Bool) (number decimals : ℕ) (cell : ListedCell)
+    (settled : SettledInputs) (job : ClassifiedJob) (flags : List Bool) (number decimals : ℕ) (cell : ListedCell)
     → IsReadyJob job → IsSettledOf settled job → slice_get (listed_cells settled) number ≡ Some cell
     → is_hidden flags number ≡ false
     → shown_text decimals (open_truth job.book.marks flags number) ≡ amount_text decimals cell.figures.truth

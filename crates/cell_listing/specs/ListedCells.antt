@@ -5,8 +5,8 @@ use Rattle.sdc_base.specs.RuleLevels.{Figures}
 use Rattle.apriori.specs.Settling.{SettledCell, told_of, view_of_cell}
 use Rattle.linked_tables.specs.BookCells.{cells as cells_in}
 use Rattle.job_inputs.specs.Cells.{cells, figures}
-use Rattle.job_inputs.specs.SettledJobs.{SettledInputs}
-use Rattle.job_inputs.specs.declared.settled.SettledJob.{SettledJob}
+use Rattle.job_inputs.specs.ClassifiedJobs.{SettledInputs}
+use Rattle.job_inputs.specs.declared.settled.ClassifiedJob.{ClassifiedJob}
 
 -- a cell by its number: its name, what the rules look at in it, and what it is to its protection
 pub record ListedCell : Type 0 where
@@ -29,5 +29,5 @@ abbrev pub listed_cells : SettledInputs → List ListedCell
 listed_cells settled = numbered_from 0 (cells settled.inputs) (figures settled.inputs) settled.cells
 
 -- the cells of a job, their figures those that its marks tell
-abbrev pub told_cells : SettledJob → List ListedCell
+abbrev pub told_cells : ClassifiedJob → List ListedCell
 told_cells job = numbered_from 0 (cells_in job.book) (told_of job.book.marks) (map view_of_cell job.cells)

@@ -7,8 +7,8 @@ use Rattle.sdc_base.specs.Trees.{Tree}
 use Rattle.cell_listing.specs.declared.listed_relations.ListedRelation.{ListedRelation}
 
 -- the total of a relation and its parts
-abbrev pub sum_listed : ListedRelation → Sum
-sum_listed relation = (relation.total, relation.parts)
+abbrev pub total_and_parts : ListedRelation → Sum
+total_and_parts relation = (relation.total, relation.parts)
 
 -- the total and the parts are those of the total's relation for this variable
 abbrev pub IsSumFor : List Tree → List (List ℕ) → Sum → ℕ → Type 0
@@ -18,9 +18,9 @@ IsSumFor trees tables sum variable =
 -- The relations are those between the cells of these tables, all of them and in their order, numbered from 0, and each
 -- is that of its total for its variable.
 pub record AreRelationsOf (trees : List Tree) (tables : List (List ℕ)) (relations : List ListedRelation) : Type 0 where
-  pub sums : map sum_listed relations ≡ relations_among trees tables
+  pub sums : map total_and_parts relations ≡ relations_among trees tables
   pub numbers : map (λ relation. relation.number) relations ≡ range_with_len 0 (length relations)
-  pub variables : All (λ relation. IsSumFor trees tables (sum_listed relation) relation.variable) relations
+  pub variables : All (λ relation. IsSumFor trees tables (total_and_parts relation) relation.variable) relations
 
 -- one more relation is listed, under the next number and for its variable
 pub record IsOneMore (trees : List Tree) (tables : List (List ℕ)) (sum : Sum) (old new : List ListedRelation)

@@ -1,7 +1,7 @@
 -- What makes a cell what it is to its protection: the rules that name it, and a statement of the office (own).
 use Rattle.std.specs.Prelude.{ℕ, ◌==◌, ◌&&◌, List, [], ◌∷◌, length, map, filter, codes, if◌then◌else◌}
 use Rattle.sdc_base.specs.Kinds.{is_primary}
-use Rattle.sdc_base.specs.RuleLevels.{Figures, names}
+use Rattle.sdc_base.specs.RuleLevels.{Figures, is_sensitive_by}
 use Rattle.sdc_base.specs.declared.cell.Kind.{Kind}
 use Rattle.sdc_base.specs.declared.cell.Kind.TheVariants.{Primary, Free, Fixed}
 use Rattle.sdc_base.specs.declared.rule.Rule.{Rule}
@@ -23,7 +23,7 @@ rule_word (rule.Zero r) = codes "ZERO"
 
 -- the words of the rules that name a cell with these figures, in the order of the job
 abbrev pub naming_words : List Rule → Figures → List (List ℕ)
-naming_words rules figures = map rule_word (filter (λ one. names one figures) rules)
+naming_words rules figures = map rule_word (filter (λ one. is_sensitive_by one figures) rules)
 
 -- `u` for a cell that is primary though no rule names it. Not: for each that is declared unsafe.
 abbrev pub with_stated : Kind → List (List ℕ) → List (List ℕ)

@@ -6,7 +6,7 @@ use Rattle.sdc_base.specs.TableText.{line_text}
 use Rattle.sdc_base.specs.Trees.{Tree}
 use Rattle.office_io.specs.Files.{Files}
 use Rattle.job_inputs.specs.Reading.{stopped_for}
-use Rattle.job_inputs.specs.SettledJobs.{SettledInputs, settled_of}
+use Rattle.job_inputs.specs.ClassifiedJobs.{SettledInputs, settled_of}
 use Rattle.job_inputs.specs.declared.described.DescribedJob.{DescribedJob}
 use Rattle.job_inputs.specs.declared.faults.Fault.{Fault}
 use Rattle.job_inputs.specs.declared.purpose.Purpose.TheVariants as purpose

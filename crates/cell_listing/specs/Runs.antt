@@ -5,8 +5,8 @@ use Rattle.sdc_base.specs.WhereTold.{WhereTold}
 use Rattle.office_io.specs.Shelves.{ShelfState}
 use Rattle.job_inputs.specs.Looks.{InputsComeTo}
 use Rattle.job_inputs.specs.ReadFiles.{limit}
-use Rattle.job_inputs.specs.Reading.{HasCause, HasComeTo, HasLookedAt, HasOnlyLooked, IsSoundByItsType}
-use Rattle.job_inputs.specs.SettledJobs.{HasOnlyLookedOn, SettledInputs, settled_of}
+use Rattle.job_inputs.specs.Reading.{HasCause, ReachedFile, ReadsFiles, HasOnlyLooked, IsSoundByItsType}
+use Rattle.job_inputs.specs.ClassifiedJobs.{HasOnlyLookedOn, SettledInputs, settled_of}
 use Rattle.job_inputs.specs.SoundJobs.{AreSound}
 use Rattle.job_inputs.specs.declared.purpose.Purpose.TheVariants as purpose
 use Rattle.job_inputs.specs.declared.stop.InputStop.{InputStop}
@@ -34,7 +34,7 @@ pub record IsListingRun (name : List ℕ) (answer : Result (Vec ℕ Global) List
 -- The same of the listing of the relations between its cells.
 pub record IsRelationsRun (name : List ℕ) (answer : Result (Vec ℕ Global) InputStop) (old new : ShelfState)
     : Type 0 where
-  pub looked : HasLookedAt (ListsRelations name) (λ fs. InputsComeTo purpose.Release fs name) IsSoundByItsType limit
+  pub looked : ReadsFiles (ListsRelations name) (λ fs. InputsComeTo purpose.Release fs name) IsSoundByItsType limit
       answer old new
   pub listed : IfOk answer (λ bytes. (settled : SettledInputs) × IsRelationListing settled bytes.items
       × AreSound settled.inputs)
@@ -45,7 +45,7 @@ pub record IsReleasedRun (name : List ℕ) (answer : Result (Vec ℕ Global) Che
     : Type 0 where
   pub told : WhereTold old.files (λ fs. IsReleaseListingAnswer (released_of fs name) answer)
   pub came_to : WhereTold old.files (λ fs. (e : InputStop) → answer ≡ Err (check.Inputs e)
-      → HasComeTo {X = Unit {0}} (ReleaseComesTo fs name) (Err e) fs new)
+      → ReachedFile {X = Unit {0}} (ReleaseComesTo fs name) (Err e) fs new)
   pub shelf : HasOnlyLookedOn purpose.Release name old new
   pub cause : (e : InputStop) → answer ≡ Err (check.Inputs e) → HasCause {X = Unit {0}} (Err e) old new
   pub listed : IfOk answer (λ bytes. (released : ReleasedFiles) × IsListingOf released bytes.items

@@ -91,19 +91,20 @@ pub fn list_asked<S: Shelf>(
     words: &[Text],
     shelf: &mut S,
 ) -> Result<Vec<u8>, AskStop>
-    ensures usage { (result ≡ Err AskStop.Usage) ↔ ((job_named words.now ≡ None) × (spec.release_named words.now ≡ None)
-        × (spec.relations_named words.now ≡ None) × (spec.intervals_named words.now ≡ None)) }
+    ensures usage { (result ≡ Err AskStop.Usage)
+        ↔ ((job_named words.now ≡ None) × (spec.job_for_release words.now ≡ None)
+        × (spec.job_for_relations words.now ≡ None) × (spec.job_and_file_for_intervals words.now ≡ None)) }
     // The name of a job alone.
     ensures cells { WhereTold (job_named words.now)
         (λ name. IsCellsAnswer name result (S.state shelf.old) (S.state shelf.new)) }
     // The name of a job, and `--released`.
-    ensures released { WhereTold (spec.release_named words.now)
+    ensures released { WhereTold (spec.job_for_release words.now)
         (λ name. IsReleasesAnswer name result (S.state shelf.old) (S.state shelf.new)) }
     // The name of a job, and `--relations`.
-    ensures relations { WhereTold (spec.relations_named words.now)
+    ensures relations { WhereTold (spec.job_for_relations words.now)
         (λ name. IsRelationsAnswer name result (S.state shelf.old) (S.state shelf.new)) }
     // The name of a job, `--released --intervals`, and the name of a file.
-    ensures intervals { WhereTold (spec.intervals_named words.now)
+    ensures intervals { WhereTold (spec.job_and_file_for_intervals words.now)
         (λ names. IsIntervalsAnswer names.0 names.1 result (S.state shelf.old) (S.state shelf.new)) }
     // It was only read from, and no more than was wanted.
     ensures shelf { HasOnlyLooked output_limit (S.state shelf.old) (S.state shelf.new) }
@@ -130,13 +131,14 @@ fn asked_intervals<S: Shelf>(
 
 // The listing that the words ask for without the name of a file.
 fn asked_by_name<S: Shelf>(alloc: Global, words: &[Text], shelf: &mut S) -> Result<Vec<u8>, AskStop>
-    ensures usage { (result ≡ Err AskStop.Usage) ↔ ((job_named words.now ≡ None) × (spec.release_named words.now ≡ None)
-        × (spec.relations_named words.now ≡ None)) }
+    ensures usage { (result ≡ Err AskStop.Usage)
+        ↔ ((job_named words.now ≡ None) × (spec.job_for_release words.now ≡ None)
+        × (spec.job_for_relations words.now ≡ None)) }
     ensures cells { WhereTold (job_named words.now)
         (λ name. IsCellsAnswer name result (S.state shelf.old) (S.state shelf.new)) }
-    ensures released { WhereTold (spec.release_named words.now)
+    ensures released { WhereTold (spec.job_for_release words.now)
         (λ name. IsReleasesAnswer name result (S.state shelf.old) (S.state shelf.new)) }
-    ensures relations { WhereTold (spec.relations_named words.now)
+    ensures relations { WhereTold (spec.job_for_relations words.now)
         (λ name. IsRelationsAnswer name result (S.state shelf.old) (S.state shelf.new)) }
     ensures shelf { HasOnlyLooked output_limit (S.state shelf.old) (S.state shelf.new) }
 {
@@ -161,10 +163,11 @@ fn asked_of_cells<S: Shelf>(
     words: &[Text],
     shelf: &mut S,
 ) -> Result<Vec<u8>, AskStop>
-    ensures usage { (result ≡ Err AskStop.Usage) ↔ ((job_named words.now ≡ None) × (spec.release_named words.now ≡ None)) }
+    ensures usage { (result ≡ Err AskStop.Usage)
+        ↔ ((job_named words.now ≡ None) × (spec.job_for_release words.now ≡ None)) }
     ensures cells { WhereTold (job_named words.now)
         (λ name. IsCellsAnswer name result (S.state shelf.old) (S.state shelf.new)) }
-    ensures released { WhereTold (spec.release_named words.now)
+    ensures released { WhereTold (spec.job_for_release words.now)
         (λ name. IsReleasesAnswer name result (S.state shelf.old) (S.state shelf.new)) }
     ensures shelf { HasOnlyLooked output_limit (S.state shelf.old) (S.state shelf.new) }
 {
@@ -207,7 +210,7 @@ fn named_with<'a>(words: &'a [Text], option: &[u8]) -> Option<&'a Text>
 
 // The names of a job and of a file, where the words for intervals stand between them, and nothing else.
 fn names_of(words: &[Text]) -> Option<(&Text, &Text)>
-    ensures { option_map (λ names. (names.0.now, names.1.now)) result ≡ spec.intervals_named words.now }
+    ensures { option_map (λ names. (names.0.now, names.1.now)) result ≡ spec.job_and_file_for_intervals words.now }
 {
     if words.len() != 4 {
         return None;

@@ -2,7 +2,7 @@ ghost use Rattle.std.specs.Prelude.{◌≡◌, ◌↔◌, None, Err, IfOk, optio
 ghost use Rattle.sdc_base.specs.WhereTold.{WhereTold};
 ghost use Rattle.job_inputs.specs.ReadFiles.{limit};
 ghost use Rattle.job_inputs.specs.Reading.{HasCause, HasOnlyLooked};
-ghost use Rattle.job_inputs.specs.SettledJobs.{SettledInputs, settled_of};
+ghost use Rattle.job_inputs.specs.ClassifiedJobs.{SettledInputs, settled_of};
 ghost use Rattle.job_inputs.specs.SoundJobs.{AreSound};
 ghost use Rattle.job_inputs.specs.declared.stop.InputStop.{InputStop as AnyStop};
 ghost use Rattle.cell_listing.specs.Calls.{HasComeToInputs, IsListingAnswer};

@@ -20,7 +20,7 @@ use std::alloc::Global;
 
 /// A cell of a job: its number, its name, its facts, and what it is to its protection.
 #[derive(Clone, Copy)]
-pub(crate) struct Given<'a> {
+pub(crate) struct ListingColumns<'a> {
     pub number: u32,
     pub name: &'a [u32],
     pub facts: &'a CellFacts,
@@ -103,7 +103,7 @@ pub(crate) fn cell_fields(
     alloc: Global,
     described: &DescribedJob,
     book: &Book,
-    given: &Given<'_>,
+    given: &ListingColumns<'_>,
 ) -> Result<Items<Text>, Memory>
     requires sound { IsSoundJob described.now }
     requires given { IsGiven described.now given.now }
@@ -120,7 +120,11 @@ pub(crate) fn cell_fields(
 }
 
 // The number of a cell, and those of the tables that have it.
-fn place_fields(alloc: Global, tables: &[Place], given: &Given<'_>) -> Result<Items<Text>, Memory>
+fn place_fields(
+    alloc: Global,
+    tables: &[Place],
+    given: &ListingColumns<'_>,
+) -> Result<Items<Text>, Memory>
     ensures { IfOk result (λ fields. fields ≡ spec.place_fields tables.now (listed_as given.now)) }
 {
     let having = tables_having(alloc, tables, given.name)?;
@@ -159,13 +163,13 @@ fn code_at(book: &Book, variable: u32, code: u32) -> &[u8]
 fn standing_fields(
     alloc: Global,
     described: &DescribedJob,
-    given: &Given<'_>,
+    given: &ListingColumns<'_>,
 ) -> Result<Items<Text>, Memory>
     requires sound { IsSoundJob described.now }
     requires given { IsGiven described.now given.now }
     ensures { IfOk result (λ fields. fields ≡ spec.standing_fields described.now (listed_as given.now)) }
 {
-    let Given { facts, cell, .. } = *given;
+    let ListingColumns { facts, cell, .. } = *given;
     let decimals = described.bound.decimals;
     let job = &described.job;
     let why = reasons(alloc, job.rules.list.as_slice(), cell.kind, facts)?;

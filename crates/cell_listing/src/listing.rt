@@ -1,16 +1,16 @@
 ghost use Rattle.std.specs.Prelude.{◌≡◌, ◌<◌, IfOk, OnOk, length};
 ghost use Rattle.sdc_base.specs.TableText.{line_text};
 ghost use Rattle.release_writer.specs.Lines.{IsReadyWriter, AppendsText, bytes_written};
-ghost use Rattle.job_inputs.specs.SettledJobs.{IsReadyJob, IsSettledOf, SettledInputs};
+ghost use Rattle.job_inputs.specs.ClassifiedJobs.{IsReadyJob, IsSettledOf, SettledInputs};
 ghost use Rattle.cell_listing.specs.ListedCells.{told_cells};
 ghost use Rattle.cell_listing.specs.Givens.{AreFieldsAt};
 ghost use Rattle.cell_listing.specs.Listings.{listing_text, lines_of, IsCellListing};
 ghost use Rattle.cell_listing.specs.Columns as spec;
 
 use crate::csv_line::{bytes_of, empty_writer, write_line};
-use crate::fields::{Given, cell_fields, column_names};
+use crate::fields::{ListingColumns, cell_fields, column_names};
 use csv::Writer;
-use job_inputs::SettledJob;
+use job_inputs::ClassifiedJob;
 use sdc_base::{Items, Memory, Text};
 use std::alloc::Global;
 
@@ -28,7 +28,7 @@ use std::alloc::Global;
 /// one look at each cell for each table and each rule, and the length of the text.
 ///
 /// What a listing has is what users of other tools look for first; its columns and their order are this project's own.
-pub fn listing_for(alloc: Global, job: &SettledJob) -> Result<Vec<u8>, Memory>
+pub fn listing_for(alloc: Global, job: &ClassifiedJob) -> Result<Vec<u8>, Memory>
     requires ready { IsReadyJob job.now }
     ensures told { IfOk result (λ bytes. bytes.items
         ≡ listing_text job.now.described job.now.book.trees (told_cells job.now)) }
@@ -42,7 +42,11 @@ pub fn listing_for(alloc: Global, job: &SettledJob) -> Result<Vec<u8>, Memory>
 }
 
 // Writes the line of the columns' names.
-fn write_names(alloc: Global, writer: &mut Writer<Vec<u8>>, job: &SettledJob) -> Result<(), Memory>
+fn write_names(
+    alloc: Global,
+    writer: &mut Writer<Vec<u8>>,
+    job: &ClassifiedJob,
+) -> Result<(), Memory>
     requires ready { IsReadyWriter writer.old }
     ensures ready { OnOk result (IsReadyWriter writer.new) }
     ensures text { OnOk result (AppendsText writer.old writer.new (line_text (spec.column_names job.now.described))) }
@@ -52,7 +56,11 @@ fn write_names(alloc: Global, writer: &mut Writer<Vec<u8>>, job: &SettledJob) ->
 }
 
 // Writes the lines of the cells.
-fn write_cells(alloc: Global, writer: &mut Writer<Vec<u8>>, job: &SettledJob) -> Result<(), Memory>
+fn write_cells(
+    alloc: Global,
+    writer: &mut Writer<Vec<u8>>,
+    job: &ClassifiedJob,
+) -> Result<(), Memory>
     requires writer { IsReadyWriter writer.old }
     requires ready { IsReadyJob job.now }
     ensures ready { OnOk result (IsReadyWriter writer.new) }
@@ -67,7 +75,11 @@ fn write_cells(alloc: Global, writer: &mut Writer<Vec<u8>>, job: &SettledJob) ->
 }
 
 /// All that stands in the line of the cell with this number.
-pub(crate) fn fields_at(alloc: Global, job: &SettledJob, number: u32) -> Result<Items<Text>, Memory>
+pub(crate) fn fields_at(
+    alloc: Global,
+    job: &ClassifiedJob,
+    number: u32,
+) -> Result<Items<Text>, Memory>
     requires ready { IsReadyJob job.now }
     ensures at_least_two { IfOk result (λ fields. 1 < length fields) }
     ensures fields { IfOk result (AreFieldsAt job.now number) }
@@ -82,7 +94,7 @@ pub(crate) fn fields_at(alloc: Global, job: &SettledJob, number: u32) -> Result<
     let Some(cell) = job.cells.as_slice().get(number as usize) else {
         return Err(Memory);
     };
-    let given = Given {
+    let given = ListingColumns {
         number,
         name: name.as_slice(),
         facts: &mark.facts,

@@ -1,8 +1,8 @@
 ghost use Rattle.std.specs.Prelude.{IfOk};
 ghost use Rattle.job_inputs.specs.Looks.{InputsComeTo};
 ghost use Rattle.job_inputs.specs.ReadFiles.{limit};
-ghost use Rattle.job_inputs.specs.Reading.{HasLookedAt, IsSoundByItsType};
-ghost use Rattle.job_inputs.specs.SettledJobs.{SettledInputs};
+ghost use Rattle.job_inputs.specs.Reading.{ReadsFiles, IsSoundByItsType};
+ghost use Rattle.job_inputs.specs.ClassifiedJobs.{SettledInputs};
 ghost use Rattle.job_inputs.specs.SoundJobs.{AreSound};
 ghost use Rattle.cell_listing.specs.Listings.{IsCellListing, ListsJob};
 
@@ -19,7 +19,7 @@ use std::alloc::Global;
 /// `Memory`. The cost is that of reading each file once, with the records kept in memory; one look-up for each record
 /// and table, one look at each cell for each table and rule, and the length of the text. The order is argus's own.
 pub fn list_job<S: Shelf>(alloc: Global, shelf: &mut S, name: &Text) -> Result<Vec<u8>, InputStop>
-    ensures looked { HasLookedAt (ListsJob name.now) (λ fs. InputsComeTo Purpose.Release fs name.now) IsSoundByItsType
+    ensures looked { ReadsFiles (ListsJob name.now) (λ fs. InputsComeTo Purpose.Release fs name.now) IsSoundByItsType
         limit result (S.state shelf.old) (S.state shelf.new) }
     // Of a shelf that tells nothing too.
     ensures listed { IfOk result (λ bytes. (settled : SettledInputs) × IsCellListing settled bytes.items

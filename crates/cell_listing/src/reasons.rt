@@ -1,5 +1,5 @@
 ghost use Rattle.std.specs.Prelude.{◌≡◌, ◌≤◌, ◌++◌, ◌∷◌, [], All, IfOk, OnOk};
-ghost use Rattle.sdc_base.specs.RuleLevels.{figures_of_facts, keep_of, names};
+ghost use Rattle.sdc_base.specs.RuleLevels.{figures_of_facts, keep_of, is_sensitive_by};
 ghost use Rattle.sdc_base.specs.Truths.{IsTruth};
 ghost use Rattle.primary_rules.specs.Ranges.{IsInRange};
 ghost use Rattle.cell_listing.specs.Reasons as spec;
@@ -76,7 +76,7 @@ fn is_naming(rule: Rule, facts: &CellFacts) -> bool
     requires in_range { IsInRange rule }
     requires truth { IsTruth facts.now.truth }
     requires kept { keep_of (rule ∷ []) ≤ facts.now.tops.keep }
-    ensures { result ≡ names rule (figures_of_facts facts.now) }
+    ensures { result ≡ is_sensitive_by rule (figures_of_facts facts.now) }
 {
     let alone = Rules {
         list: Few::of(&[rule]),

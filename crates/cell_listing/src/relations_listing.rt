@@ -1,7 +1,7 @@
 ghost use Rattle.std.specs.Prelude.{◌≡◌, ◌<◌, ◌++◌, [], length, map, flat_map, decimal, slice_index_or, IfOk, OnOk};
 ghost use Rattle.sdc_base.specs.TableText.{line_text};
 ghost use Rattle.release_writer.specs.Lines.{IsReadyWriter, AppendsText};
-ghost use Rattle.job_inputs.specs.SettledJobs.{IsSettledOf, SettledInputs};
+ghost use Rattle.job_inputs.specs.ClassifiedJobs.{IsSettledOf, SettledInputs};
 ghost use Rattle.cell_listing.specs.Columns.{spaced};
 ghost use Rattle.cell_listing.specs.RelationListings.{relation_line, IsRelationListing, IsRelationText};
 ghost use Rattle.cell_listing.specs.RelationListings as spec;
@@ -12,7 +12,7 @@ use crate::fields::variable_names;
 use crate::listed_relations::{ListedRelation, listed_relations};
 use crate::words::{add_word, spaced};
 use csv::Writer;
-use job_inputs::SettledJob;
+use job_inputs::ClassifiedJob;
 use sdc_base::{Items, Memory, Text};
 use std::alloc::Global;
 
@@ -26,7 +26,7 @@ use std::alloc::Global;
 ///
 /// Want of memory is the only refusal. It takes a look-up for each part of each relation, and the length of the text.
 /// The columns and their order are this project's own.
-pub fn relations_listing_for(alloc: Global, job: &SettledJob) -> Result<Vec<u8>, Memory>
+pub fn relations_listing_for(alloc: Global, job: &ClassifiedJob) -> Result<Vec<u8>, Memory>
     ensures told { IfOk result (λ bytes. IsRelationText job.now.described job.now.book.trees job.now.book.tables bytes.items) }
     ensures over_records { IfOk result (λ bytes. (settled : SettledInputs) → IsSettledOf settled job.now
         → IsRelationListing settled bytes.items) }

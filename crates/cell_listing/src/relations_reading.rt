@@ -1,8 +1,8 @@
 ghost use Rattle.std.specs.Prelude.{IfOk};
 ghost use Rattle.job_inputs.specs.Looks.{InputsComeTo};
 ghost use Rattle.job_inputs.specs.ReadFiles.{limit};
-ghost use Rattle.job_inputs.specs.Reading.{HasLookedAt, IsSoundByItsType};
-ghost use Rattle.job_inputs.specs.SettledJobs.{SettledInputs};
+ghost use Rattle.job_inputs.specs.Reading.{ReadsFiles, IsSoundByItsType};
+ghost use Rattle.job_inputs.specs.ClassifiedJobs.{SettledInputs};
 ghost use Rattle.job_inputs.specs.SoundJobs.{AreSound};
 ghost use Rattle.cell_listing.specs.RelationListings.{IsRelationListing, ListsRelations};
 
@@ -24,7 +24,7 @@ pub fn list_relations<S: Shelf>(
     shelf: &mut S,
     name: &Text,
 ) -> Result<Vec<u8>, InputStop>
-    ensures looked { HasLookedAt (ListsRelations name.now) (λ fs. InputsComeTo Purpose.Release fs name.now)
+    ensures looked { ReadsFiles (ListsRelations name.now) (λ fs. InputsComeTo Purpose.Release fs name.now)
         IsSoundByItsType limit result (S.state shelf.old) (S.state shelf.new) }
     // Of a shelf that tells nothing too.
     ensures listed { IfOk result (λ bytes. (settled : SettledInputs) × IsRelationListing settled bytes.items

@@ -33,7 +33,7 @@ use Rattle.cert_check.specs.OutsidePlan.{first_outside, outside_fault}
 use Rattle.cert_check.specs.WorldList.{worlds_fault}
 use Rattle.cert_check.specs.NeedList.{needs_fault}
 use Rattle.cert_check.specs.RoundedRelease.{at_line, values_fault, rounded_fault}
-use Rattle.cert_check.specs.FirstFault.{fault_of, open_set, hiding_fault, suppressed_fault, acceptance_fault}
+use Rattle.cert_check.specs.FirstFault.{check_fault_of, open_set, hiding_fault, suppressed_fault, acceptance_fault}
 use Rattle.cert_check.specs.Acceptance.{IsShown, IsAccepted, IsOfCase, IsRoundedRelease}
 use Rattle.linked_tables.specs.BookCells.{IsBook}
 use Rattle.release_writer.specs.ReleaseReading.{rounded_read}
@@ -185,6 +185,6 @@ of_case_where case release c ok =
     }
 
 -- what a good answer gives
-pub accepted_by : (answer meant : Result (Unit {0}) CheckFault) (P : Type 0) → Gives fault_of (λ u. u) answer meant → (meant ≡ Ok tt → P) → answer ≡ Ok tt → P
+pub accepted_by : (answer meant : Result (Unit {0}) CheckFault) (P : Type 0) → Gives check_fault_of (λ u. u) answer meant → (meant ≡ Ok tt → P) → answer ≡ Ok tt → P
 accepted_by (Ok u) meant P gives goes ok = goes gives
 accepted_by (Err e) meant P gives goes ok = absurd cc

@@ -16,7 +16,7 @@ use Rattle.cert_check.specs.HiddenSet.{permitted_fault}
 use Rattle.cert_check.specs.Methods.{method_fault, rounds_cells}
 use Rattle.cert_check.specs.ReleaseLines.{differing_line, hiding_text, table_fault, tables_fault}
 use Rattle.cert_check.specs.RoundedRelease.{rounded_fault}
-use Rattle.cert_check.specs.FirstFault.{fault_of, shown_fault, suppressed_fault, acceptance_fault}
+use Rattle.cert_check.specs.FirstFault.{check_fault_of, shown_fault, suppressed_fault, acceptance_fault}
 use Rattle.cert_check.specs.OwnTexts.{hiding_texts, own_set, own_texts, certificate_fault}
 use Rattle.cert_check.proofs.Written.{text_itself}
 
@@ -56,6 +56,6 @@ own_fault case c hides =
     (texts_themselves case.book.now flags case.decimals 0 case.book.now.tables case.names.now)
 
 -- what a good answer gives
-pub accepted_with : {X : Type 0} (answer : Result X CheckFault) (meant : Result (Unit {0}) CheckFault) (P : Type 0) → Gives fault_of (λ (x : X). tt) answer meant → (meant ≡ Ok tt → P) → IfOk answer (λ x. P)
+pub accepted_with : {X : Type 0} (answer : Result X CheckFault) (meant : Result (Unit {0}) CheckFault) (P : Type 0) → Gives check_fault_of (λ (x : X). tt) answer meant → (meant ≡ Ok tt → P) → IfOk answer (λ x. P)
 accepted_with (Ok x) meant P gives goes = goes gives
 accepted_with (Err e) meant P gives goes = tt

@@ -20,7 +20,7 @@ use Rattle.linked_tables.specs.BookViews.{BookView}
 use Rattle.linked_tables.specs.BookCells.{cells as cells_in}
 use Rattle.release_writer.specs.ReleaseReading.{LinePlace, rounded_read}
 use Rattle.release_writer.specs.ReadingLaws.{AreTexts, IsReleased}
-use Rattle.release_writer.specs.Sheets.{fault_of as line_of}
+use Rattle.release_writer.specs.Sheets.{release_fault_of as line_of}
 use Rattle.release_writer.specs.declared.release_fault.ReleaseFault.{ReleaseFault}
 use Rattle.release_writer.specs.declared.release_fault.ReleaseFault.TheVariants as release
 use Rattle.release_writer.proofs.Rounded.{rounded_have_texts}
@@ -30,7 +30,7 @@ use Rattle.worlds.proofs.WorldLaws.{none_refused}
 use Rattle.worlds.proofs.ProtectLaws.{start}
 use Rattle.cert_check.specs.declared.faults.CheckFault.{CheckFault}
 use Rattle.cert_check.specs.declared.faults.CheckFault.TheVariants as fault
-use Rattle.cert_check.specs.FirstFault.{fault_of}
+use Rattle.cert_check.specs.FirstFault.{check_fault_of}
 use Rattle.cert_check.specs.RoundedRelease.{is_adjacent, first_unrounded, first_broken, values_fault, at_line, fault_for}
 
 -- ---- what is read
@@ -39,7 +39,7 @@ pub read_ok : (r : Result (List ℤ) LinePlace) (values : List ℤ) → map_faul
 read_ok (Ok x) values is = let same : x ≡ values = cc in ap Ok same
 read_ok (Err e) values is = absurd cc
 
-pub read_stops : (e : ReleaseFault) (made : CheckFault) (meant : Result (List ℤ) LinePlace) → made ≡ fault_for e → Fails (line_of e) meant → Fails (fault_of made) (map_fault at_line meant)
+pub read_stops : (e : ReleaseFault) (made : CheckFault) (meant : Result (List ℤ) LinePlace) → made ≡ fault_for e → Fails (line_of e) meant → Fails (check_fault_of made) (map_fault at_line meant)
 read_stops (release.At table line) made meant is told = rw (is, told) refl
 read_stops release.Memory made meant is told = rw is tt
 

@@ -19,24 +19,24 @@ use Rattle.cert_check.specs.NeedList.{needs_fault}
 use Rattle.cert_check.specs.RoundedRelease.{rounded_fault}
 
 -- the fault of a call; want of memory names none
-abbrev pub fault_of : CheckFault → Option CheckFault
-fault_of fault.Counts = Some fault.Counts
-fault_of fault.Method = Some fault.Method
-fault_of (fault.PrimaryShown cell) = Some (fault.PrimaryShown cell)
-fault_of (fault.FixedHidden cell) = Some (fault.FixedHidden cell)
-fault_of (fault.Release table line) = Some (fault.Release table line)
-fault_of (fault.Step k) = Some (fault.Step k)
-fault_of (fault.RepairCell k) = Some (fault.RepairCell k)
-fault_of (fault.Repair k why) = Some (fault.Repair k why)
-fault_of (fault.Outside cell) = Some (fault.Outside cell)
-fault_of (fault.WorldCell k) = Some (fault.WorldCell k)
-fault_of (fault.World k why) = Some (fault.World k why)
-fault_of (fault.NotReached cell side) = Some (fault.NotReached cell side)
-fault_of (fault.NeedCell k) = Some (fault.NeedCell k)
-fault_of (fault.Need k why) = Some (fault.Need k why)
-fault_of (fault.Rounded cell) = Some (fault.Rounded cell)
-fault_of (fault.Relation number) = Some (fault.Relation number)
-fault_of fault.Memory = None
+abbrev pub check_fault_of : CheckFault → Option CheckFault
+check_fault_of fault.Counts = Some fault.Counts
+check_fault_of fault.Method = Some fault.Method
+check_fault_of (fault.PrimaryShown cell) = Some (fault.PrimaryShown cell)
+check_fault_of (fault.FixedHidden cell) = Some (fault.FixedHidden cell)
+check_fault_of (fault.Release table line) = Some (fault.Release table line)
+check_fault_of (fault.Step k) = Some (fault.Step k)
+check_fault_of (fault.RepairCell k) = Some (fault.RepairCell k)
+check_fault_of (fault.Repair k why) = Some (fault.Repair k why)
+check_fault_of (fault.Outside cell) = Some (fault.Outside cell)
+check_fault_of (fault.WorldCell k) = Some (fault.WorldCell k)
+check_fault_of (fault.World k why) = Some (fault.World k why)
+check_fault_of (fault.NotReached cell side) = Some (fault.NotReached cell side)
+check_fault_of (fault.NeedCell k) = Some (fault.NeedCell k)
+check_fault_of (fault.Need k why) = Some (fault.Need k why)
+check_fault_of (fault.Rounded cell) = Some (fault.Rounded cell)
+check_fault_of (fault.Relation number) = Some (fault.Relation number)
+check_fault_of fault.Memory = None
 
 -- the cells that the plan and the repairs hide
 abbrev pub open_set : Case → Certificate → List Bool

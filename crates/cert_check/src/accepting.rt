@@ -1,12 +1,12 @@
 ghost use Rattle.std.specs.Prelude.{◌≡◌, ◌<◌, true, false, length, All, Ok, OnOk};
 ghost use Rattle.sdc_base.specs.Trails.{corners_of};
 ghost use Rattle.sdc_base.specs.Answers.{Gives};
-ghost use Rattle.sdc_base.specs.Grounds.{IsGround};
+ghost use Rattle.sdc_base.specs.Patterns.{IsPattern};
 ghost use Rattle.cert_check.specs.Cases.{IsCase};
 ghost use Rattle.cert_check.specs.Counts.{counts_fit};
 ghost use Rattle.cert_check.specs.Methods.{rounds_cells};
 ghost use Rattle.cert_check.specs.Acceptance.{IsAccepted, IsOfCase, IsRoundedRelease};
-ghost use Rattle.cert_check.specs.FirstFault.{fault_of, acceptance_fault, suppressed_fault, shown_fault, hiding_fault};
+ghost use Rattle.cert_check.specs.FirstFault.{check_fault_of, acceptance_fault, suppressed_fault, shown_fault, hiding_fault};
 
 use crate::case::Case;
 use crate::counting::check_counts;
@@ -52,7 +52,7 @@ pub fn accept(
     certificate: &Certificate,
 ) -> Result<(), CheckFault>
     requires { IsCase case.now release.now }
-    ensures exact { Gives fault_of (λ u. u) result (acceptance_fault case.now release.now certificate.now) }
+    ensures exact { Gives check_fault_of (λ u. u) result (acceptance_fault case.now release.now certificate.now) }
     ensures of_case { result ≡ Ok tt → IsOfCase case.now certificate.now }
     ensures suppressed { result ≡ Ok tt → rounds_cells case.now.method ≡ false
         → IsAccepted case.now release.now certificate.now }
@@ -72,7 +72,7 @@ fn first_of(
     certificate: &Certificate,
 ) -> Result<(), CheckFault>
     requires { IsCase case.now release.now }
-    ensures exact { Gives fault_of (λ u. u) result (acceptance_fault case.now release.now certificate.now) }
+    ensures exact { Gives check_fault_of (λ u. u) result (acceptance_fault case.now release.now certificate.now) }
 {
     check_counts(case.system, certificate)?;
     check_method(&case.method, certificate)?;
@@ -94,7 +94,8 @@ fn check_suppressed(
     requires is_case { IsCase case.now release.now }
     requires flags { length hidden.old.flags ≡ case.now.system.now.cells }
     requires counted { counts_fit case.now.system.now certificate.now ≡ true }
-    ensures { Gives fault_of (λ u. u) result (suppressed_fault case.now release.now hidden.old.flags certificate.now) }
+    ensures { Gives check_fault_of (λ u. u) result
+        (suppressed_fault case.now release.now hidden.old.flags certificate.now) }
 {
     check_permitted(case.cells, hidden.flags.as_slice())?;
     check_release(alloc, case.book, hidden, case.names, case.decimals, release)?;
@@ -109,10 +110,10 @@ pub(crate) fn check_shown(
     hidden: &mut Hidden,
     certificate: &Certificate,
 ) -> Result<(), CheckFault>
-    requires ground { IsGround case.now.system.now case.now.cells.now hidden.old.flags }
+    requires ground { IsPattern case.now.system.now case.now.cells.now hidden.old.flags }
     requires corners { All (λ corner. corner < length case.now.cells.now) (corners_of case.now.trail.now.steps) }
     requires counted { counts_fit case.now.system.now certificate.now ≡ true }
-    ensures exact { Gives fault_of (λ u. u) result (shown_fault case.now hidden.old.flags certificate.now) }
+    ensures exact { Gives check_fault_of (λ u. u) result (shown_fault case.now hidden.old.flags certificate.now) }
     ensures hidden { OnOk result (hidden.new.flags ≡ hidden.old.flags) }
 {
     let mut scratch = Vec::from_elem(alloc, 0, case.cells.len())?;
@@ -131,11 +132,11 @@ fn check_hiding(
     certificate: &Certificate,
     scratch: &mut [i128],
 ) -> Result<(), CheckFault>
-    requires ground { IsGround case.now.system.now case.now.cells.now hidden.now.flags }
+    requires ground { IsPattern case.now.system.now case.now.cells.now hidden.now.flags }
     requires corners { All (λ corner. corner < length case.now.cells.now) (corners_of case.now.trail.now.steps) }
     requires scratch { length scratch.old ≡ case.now.system.now.cells }
     requires counted { counts_fit case.now.system.now certificate.now ≡ true }
-    ensures exact { Gives fault_of (λ u. u) result (hiding_fault case.now hidden.now.flags certificate.now) }
+    ensures exact { Gives check_fault_of (λ u. u) result (hiding_fault case.now hidden.now.flags certificate.now) }
     ensures length { length scratch.new ≡ length scratch.old }
 {
     check_steps(case.trail.steps.as_slice(), certificate.steps.as_slice())?;

@@ -2,7 +2,7 @@ ghost use Rattle.std.specs.Prelude.{◌≡◌, false, IfOk};
 ghost use Rattle.sdc_base.specs.Answers.{Gives};
 ghost use Rattle.cert_check.specs.Acceptance.{IsAccepted, IsOfCase};
 ghost use Rattle.cert_check.specs.Cases.{IsCase};
-ghost use Rattle.cert_check.specs.FirstFault.{fault_of, acceptance_fault};
+ghost use Rattle.cert_check.specs.FirstFault.{check_fault_of, acceptance_fault};
 ghost use Rattle.cert_check.specs.Methods.{rounds_cells};
 ghost use Rattle.cert_check.specs.OwnTexts.{own_set, own_texts, certificate_fault};
 
@@ -31,7 +31,7 @@ pub fn accept_certificate(
 ) -> Result<Hidden, CheckFault>
     requires is_case { IsCase case.now (own_texts case.now certificate.now) }
     requires hides { rounds_cells case.now.method ≡ false }
-    ensures exact { Gives fault_of (λ hidden. tt) result
+    ensures exact { Gives check_fault_of (λ hidden. tt) result
         (acceptance_fault case.now (own_texts case.now certificate.now) certificate.now) }
     ensures set { IfOk result (λ hidden. hidden.flags ≡ own_set case.now certificate.now) }
     ensures of_case { IfOk result (λ hidden. IsOfCase case.now certificate.now) }
@@ -44,7 +44,7 @@ pub fn accept_certificate(
 // The first fault of a certificate that lies in no table, or else its hidden set.
 fn certify(alloc: Global, case: &Case<'_>, certificate: &Certificate) -> Result<Hidden, CheckFault>
     requires { IsCase case.now (own_texts case.now certificate.now) }
-    ensures exact { Gives fault_of (λ hidden. tt) result (certificate_fault case.now certificate.now) }
+    ensures exact { Gives check_fault_of (λ hidden. tt) result (certificate_fault case.now certificate.now) }
     ensures set { IfOk result (λ hidden. hidden.flags ≡ own_set case.now certificate.now) }
 {
     check_counts(case.system, certificate)?;

@@ -1,5 +1,5 @@
 ghost use Rattle.std.specs.Prelude.{◌≡◌, ◌<◌, ◌≤◌, ◌+◌, length, slice_get, Err, IfOk, IfErr, OnOk};
-ghost use Rattle.sdc_base.specs.Grounds.{IsGround};
+ghost use Rattle.sdc_base.specs.Patterns.{IsPattern};
 ghost use Rattle.cert_check.specs.WorldList as spec;
 
 use crate::case::Case;
@@ -16,7 +16,7 @@ pub(crate) fn check_worlds(
     lines: &[WorldLine],
     scratch: &mut [i128],
 ) -> Result<(), CheckFault>
-    requires ground { IsGround case.now.system.now case.now.cells.now hidden.now.flags }
+    requires ground { IsPattern case.now.system.now case.now.cells.now hidden.now.flags }
     requires scratch { length scratch.old ≡ case.now.system.now.cells }
     ensures exact { result ≡
         spec.worlds_fault case.now.system.now case.now.cells.now hidden.now.flags lines.now }
@@ -41,7 +41,7 @@ fn check_cell(
     lines: &[WorldLine],
     scratch: &mut [i128],
 ) -> Result<usize, CheckFault>
-    requires ground { IsGround case.now.system.now case.now.cells.now hidden.now.flags }
+    requires ground { IsPattern case.now.system.now case.now.cells.now hidden.now.flags }
     requires scratch { length scratch.old ≡ case.now.system.now.cells }
     requires number { number < length case.now.cells.now }
     requires place { place ≤ length lines.now }
@@ -71,7 +71,7 @@ fn check_place(
     lines: &[WorldLine],
     scratch: &mut [i128],
 ) -> Result<(), CheckFault>
-    requires ground { IsGround case.now.system.now case.now.cells.now hidden.now.flags }
+    requires ground { IsPattern case.now.system.now case.now.cells.now hidden.now.flags }
     requires scratch { length scratch.old ≡ case.now.system.now.cells }
     requires asked { asked.0 < case.now.system.now.cells }
     ensures exact { result ≡
@@ -95,7 +95,7 @@ fn check_line(
     line: &WorldLine,
     scratch: &mut [i128],
 ) -> Result<(), CheckFault>
-    requires ground { IsGround case.now.system.now case.now.cells.now hidden.now.flags }
+    requires ground { IsPattern case.now.system.now case.now.cells.now hidden.now.flags }
     requires scratch { length scratch.old ≡ case.now.system.now.cells }
     requires asked { asked.0 < case.now.system.now.cells }
     ensures exact { result ≡

@@ -1,9 +1,9 @@
 ghost use Rattle.std.specs.Prelude.{◌≡◌, ◌∷◌, ◌++◌, [], ◌<◌, ◌^◌, length, All, slice_get, true, IfOk, OnOk};
-ghost use Rattle.sdc_base.specs.Grounds.{IsGround};
+ghost use Rattle.sdc_base.specs.Patterns.{IsPattern};
 ghost use Rattle.sdc_base.specs.Answers.{Gives};
 ghost use Rattle.sdc_base.specs.HiddenSets.{is_hidden};
 ghost use Rattle.repair.specs.Needs.{others_hidden};
-ghost use Rattle.cert_check.specs.FirstFault.{fault_of};
+ghost use Rattle.cert_check.specs.FirstFault.{check_fault_of};
 ghost use Rattle.cert_check.specs.NeedList.{need_fault, place_fault, each_need_fault, needs_fault};
 
 use crate::case::Case;
@@ -21,10 +21,10 @@ pub(crate) fn check_needs(
     needs: &[Refuted],
     scratch: &mut [i128],
 ) -> Result<(), CheckFault>
-    requires ground { IsGround case.now.system.now case.now.cells.now hidden.old.flags }
+    requires ground { IsPattern case.now.system.now case.now.cells.now hidden.old.flags }
     requires scratch { length scratch.old ≡ case.now.system.now.cells }
     requires asked { All (λ need. need.cell < case.now.system.now.cells) needs.now }
-    ensures exact { Gives fault_of (λ u. u) result
+    ensures exact { Gives check_fault_of (λ u. u) result
         (needs_fault case.now.system.now case.now.cells.now hidden.old.flags needs.now) }
     ensures hidden { OnOk result (hidden.new.flags ≡ hidden.old.flags) }
     ensures length { length scratch.new ≡ length scratch.old }
@@ -70,7 +70,7 @@ fn check_each(
     needs: &[Refuted],
     scratch: &mut [i128],
 ) -> Result<(), CheckFault>
-    requires ground { IsGround case.now.system.now case.now.cells.now hidden.old.flags }
+    requires ground { IsPattern case.now.system.now case.now.cells.now hidden.old.flags }
     requires scratch { length scratch.old ≡ case.now.system.now.cells }
     requires subjects { subjects.now ≡ others_hidden hidden.old.flags 0 case.now.cells.now }
     requires asked { All (λ need. need.cell < case.now.system.now.cells) needs.now }
@@ -97,7 +97,7 @@ fn check_place(
     need: &Refuted,
     scratch: &mut [i128],
 ) -> Result<(), CheckFault>
-    requires ground { IsGround case.now.system.now case.now.cells.now hidden.old.flags }
+    requires ground { IsPattern case.now.system.now case.now.cells.now hidden.old.flags }
     requires scratch { length scratch.old ≡ case.now.system.now.cells }
     requires subjects { subjects.now ≡ others_hidden hidden.old.flags 0 case.now.cells.now }
     requires asked { need.now.cell < case.now.system.now.cells }
@@ -130,7 +130,7 @@ fn check_need(
     need: &Refuted,
     scratch: &mut [i128],
 ) -> Result<(), CheckFault>
-    requires ground { IsGround case.now.system.now case.now.cells.now hidden.old.flags }
+    requires ground { IsPattern case.now.system.now case.now.cells.now hidden.old.flags }
     requires scratch { length scratch.old ≡ case.now.system.now.cells }
     requires within { subject < case.now.system.now.cells }
     requires hidden { is_hidden hidden.old.flags subject ≡ true }

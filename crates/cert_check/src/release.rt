@@ -5,7 +5,7 @@ ghost use Rattle.release_writer.specs.ReadingLaws.{AreTexts};
 ghost use Rattle.release_writer.specs.Sheets.{HaveNames, HasTruthsFromZero};
 ghost use Rattle.release_writer.specs.ShownCells.{open_truth};
 ghost use Rattle.cert_check.specs.Cases.{IsCase};
-ghost use Rattle.cert_check.specs.FirstFault.{fault_of};
+ghost use Rattle.cert_check.specs.FirstFault.{check_fault_of};
 ghost use Rattle.cert_check.specs.OwnTexts.{release_fault};
 ghost use Rattle.cert_check.specs.ReleaseLines as spec;
 
@@ -30,7 +30,7 @@ pub fn check_tables(
 ) -> Result<(), CheckFault>
     requires is_case { IsCase case.now release.now }
     requires flags { length hidden.now.flags ≡ case.now.system.now.cells }
-    ensures exact { Gives fault_of (λ u. u) result (release_fault case.now hidden.now.flags release.now) }
+    ensures exact { Gives check_fault_of (λ u. u) result (release_fault case.now hidden.now.flags release.now) }
     ensures texts { result ≡ Ok tt → AreTexts case.now.book.now case.now.decimals
         (open_truth case.now.book.now.marks hidden.now.flags) case.now.book.now.tables case.now.names.now release.now }
 {
@@ -51,7 +51,7 @@ pub(crate) fn check_release(
     requires decimals { decimals ≤ 13 }
     requires names { HaveNames names.now book.now.tables }
     requires release { length release.now ≡ length book.now.tables }
-    ensures { Gives fault_of (λ u. u) result
+    ensures { Gives check_fault_of (λ u. u) result
         (spec.tables_fault book.now hidden.now.flags decimals 0 book.now.tables names.now release.now) }
 {
     let tables = book.tables();
@@ -84,7 +84,7 @@ fn check_table(
     requires decimals { decimals ≤ 13 }
     requires table { t < length book.now.tables }
     requires names { length names.now ≡ length (slice_index_or book.now.tables t []) + 1 }
-    ensures { Gives fault_of (λ u. u) result
+    ensures { Gives check_fault_of (λ u. u) result
         (spec.table_fault book.now hidden.now.flags decimals t (slice_index_or book.now.tables t []) names.now
         bytes.now) }
 {

@@ -1,5 +1,5 @@
 ghost use Rattle.std.specs.Prelude.{◌≡◌, ◌<◌, length, All, OnOk};
-ghost use Rattle.sdc_base.specs.Grounds.{IsGround};
+ghost use Rattle.sdc_base.specs.Patterns.{IsPattern};
 ghost use Rattle.repair.specs.HidingOrder.{hide_subjects};
 ghost use Rattle.cert_check.specs.RepairList as spec;
 
@@ -16,7 +16,7 @@ pub(crate) fn check_repairs(
     repairs: &[Refuted],
     scratch: &mut [i128],
 ) -> Result<(), CheckFault>
-    requires ground { IsGround system.now cells.now hidden.old.flags }
+    requires ground { IsPattern system.now cells.now hidden.old.flags }
     requires scratch { length scratch.old ≡ system.now.cells }
     requires subjects { All (λ repair. repair.subject < system.now.cells) repairs.now }
     requires asked { All (λ repair. repair.cell < system.now.cells) repairs.now }
@@ -40,7 +40,7 @@ fn check_repair(
     repair: &Refuted,
     scratch: &mut [i128],
 ) -> Result<(), CheckFault>
-    requires ground { IsGround system.now cells.now hidden.now.flags }
+    requires ground { IsPattern system.now cells.now hidden.now.flags }
     requires scratch { length scratch.old ≡ system.now.cells }
     requires subject { repair.now.subject < system.now.cells }
     requires asked { repair.now.cell < system.now.cells }

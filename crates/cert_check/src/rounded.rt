@@ -6,7 +6,7 @@ ghost use Rattle.sdc_base.specs.Steps.{map_fault};
 ghost use Rattle.sdc_base.specs.Systems.{NamesCells, form, number_at};
 ghost use Rattle.release_writer.specs.ReleaseReading.{rounded_read};
 ghost use Rattle.cert_check.specs.Cases.{IsCase};
-ghost use Rattle.cert_check.specs.FirstFault.{fault_of};
+ghost use Rattle.cert_check.specs.FirstFault.{check_fault_of};
 ghost use Rattle.cert_check.specs.Methods.{rounds_cells};
 ghost use Rattle.cert_check.specs.RoundedRelease as spec;
 
@@ -24,7 +24,7 @@ pub(crate) fn check_rounded(
 ) -> Result<(), CheckFault>
     requires case { IsCase case.now release.now }
     requires rounds { rounds_cells case.now.method ≡ true }
-    ensures { Gives fault_of (λ u. u) result (spec.rounded_fault case.now release.now) }
+    ensures { Gives check_fault_of (λ u. u) result (spec.rounded_fault case.now release.now) }
 {
     let values = read_values(alloc, case, release)?;
     check_values(case.system, case.cells, case.base, values.as_slice())
@@ -33,7 +33,7 @@ pub(crate) fn check_rounded(
 // The numbers that the tables show.
 fn read_values(alloc: Global, case: &Case<'_>, release: &[Text]) -> Result<Items<i128>, CheckFault>
     requires case { IsCase case.now release.now }
-    ensures exact { Gives fault_of (λ values. values) result
+    ensures exact { Gives check_fault_of (λ values. values) result
         (map_fault spec.at_line (rounded_read case.now.book.now case.now.names.now case.now.decimals release.now)) }
     ensures each { IfOk result (λ values. length values ≡ length case.now.cells.now) }
     ensures from_zero { IfOk result (λ values. All (λ value. pos 0 ≤ℤ value) values) }

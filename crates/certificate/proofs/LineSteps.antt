@@ -13,7 +13,7 @@ use Rattle.certificate.specs.declared.faults.CertError.TheVariants as cert_error
 use Rattle.plain_text.specs.declared.stop.Stop.{Stop}
 use Rattle.plain_text.specs.declared.stop.Stop.TheVariants as stop
 use Rattle.plain_text.specs.Stops.{why_of}
-use Rattle.certificate.specs.Faults.{fault_of, at_line, error_of}
+use Rattle.certificate.specs.Faults.{cert_fault_of, at_line, error_of}
 use Rattle.certificate.specs.Remainder.{Remainder}
 use Rattle.certificate.specs.Pieces.{pieces}
 use Rattle.certificate.specs.LineReadings.{item_of}
@@ -21,7 +21,7 @@ use Rattle.certificate.specs.Certificates.{next_line, is_next, version_of, first
 use Rattle.certificate.proofs.PieceList.{piece_last, piece_first, piece_head, next-take}
 
 -- an error of a line keeps its fault when the line's number is put to it
-pub fails_at : {Y : Type 0} (line : ℕ) (e : Stop CertWhy) (read : Result Y CertWhy) → Fails (why_of e) read → Fails (fault_of (error_of line e)) (at_line line read)
+pub fails_at : {Y : Type 0} (line : ℕ) (e : Stop CertWhy) (read : Result Y CertWhy) → Fails (why_of e) read → Fails (cert_fault_of (error_of line e)) (at_line line read)
 fails_at line stop.Memory read h = tt
 fails_at line (stop.Fault why) read h = rw h refl
 
@@ -111,7 +111,7 @@ version_by_head (b ∷ bytes) some =
 -- ---- an error at a line, and fewer lines behind one
 
 pub items_fail : {A : Type 0} (e : CertError) (word : List ℕ) (read : List (List ℕ) → Result A CertWhy) (front : List A) (given : ℕ) (lines : List (List ℕ))
-    → is_next word lines ≡ true → Fails (fault_of e) (item_at word read (record { given = given; lines = lines })) → Fails (fault_of e) (with_items front (items_from word read given lines))
+    → is_next word lines ≡ true → Fails (cert_fault_of e) (item_at word read (record { given = given; lines = lines })) → Fails (cert_fault_of e) (with_items front (items_from word read given lines))
 items_fail cert_error.Memory word read front given lines named h = tt
 items_fail (cert_error.At line why) word read front given lines named h = items_stop word read front given lines (line, why) named h
 

@@ -1,6 +1,6 @@
 ghost use Rattle.std.specs.Prelude.{◌≡◌, IfOk};
 ghost use Rattle.sdc_base.specs.Answers.{Gives};
-ghost use Rattle.certificate.specs.Faults.{fault_of};
+ghost use Rattle.certificate.specs.Faults.{cert_fault_of};
 ghost use Rattle.certificate.specs.ExtraReadings as extra_readings;
 ghost use Rattle.certificate.specs.ExtraReadings.{extra_of};
 ghost use Rattle.certificate.specs.ExtraTexts.{extra_text, IsExtraSpellable, IsExtraWithinTypes};
@@ -24,7 +24,7 @@ use std::alloc::Global;
 /// cells that are read have exactly these bytes as their text, so they have one spelling. The cost is the number of
 /// bytes; memory is taken for the lists alone. The format is argus's own.
 pub fn read_extra(alloc: Global, bytes: &[u8]) -> Result<Extra, CertError>
-    ensures exact { Gives fault_of (λ extra. extra) result (extra_of bytes.now) }
+    ensures exact { Gives cert_fault_of (λ extra. extra) result (extra_of bytes.now) }
     ensures spelling { IfOk result (λ extra. bytes.now ≡ extra_text extra) }
     ensures spellable { IfOk result (λ extra. IsExtraSpellable extra) }
     ensures within { IfOk result (λ extra. IsExtraWithinTypes extra) }
@@ -36,7 +36,7 @@ pub fn read_extra(alloc: Global, bytes: &[u8]) -> Result<Extra, CertError>
 // The extra cells of which the bytes are the text, line by line.
 #[tactic(auto, unfolding(crate::specs::ExtraReadings::extra_of))]
 fn extra_lines(alloc: Global, bytes: &[u8]) -> Result<Extra, CertError>
-    ensures { Gives fault_of (λ extra. extra) result (extra_of bytes.now) }
+    ensures { Gives cert_fault_of (λ extra. extra) result (extra_of bytes.now) }
 {
     let mut reader = behind_heading(b"argus contributors 1", bytes)?;
     let cells = cells_at(alloc, &mut reader)?;
@@ -59,7 +59,7 @@ fn extra_lines(alloc: Global, bytes: &[u8]) -> Result<Extra, CertError>
 // The extra cells, where there is a line of them.
 #[tactic(auto, unfolding(crate::specs::ExtraReadings::cells_at))]
 fn cells_at(alloc: Global, reader: &mut Reader<'_>) -> Result<Items<u32>, CertError>
-    ensures { Gives fault_of (λ cells. (cells, reader.new)) result (extra_readings.cells_at reader.old) }
+    ensures { Gives cert_fault_of (λ cells. (cells, reader.new)) result (extra_readings.cells_at reader.old) }
 {
     if reader.is_next(b"extra") {
         return read_item(alloc, &CellsLine { word: b"extra" }, reader);

@@ -2,7 +2,7 @@ ghost use Rattle.std.specs.Prelude.{◌≡◌, List, ℕ, Result};
 ghost use Rattle.sdc_base.specs.Answers.{Gives};
 ghost use Rattle.certificate.specs.Certificates.{item_at, items_at};
 ghost use Rattle.plain_text.specs.Stops.{why_of};
-ghost use Rattle.certificate.specs.Faults.{fault_of};
+ghost use Rattle.certificate.specs.Faults.{cert_fault_of};
 ghost use Rattle.certificate.specs.LineReadings.{item_of};
 ghost use Rattle.certificate.specs.declared.faults.CertWhy.{CertWhy as Why};
 
@@ -50,7 +50,7 @@ pub(crate) fn read_item<K: LineKind>(
     kind: &K,
     reader: &mut Reader<'_>,
 ) -> Result<K::Item, CertError>
-    ensures { Gives fault_of (λ item. (item, reader.new)) result
+    ensures { Gives cert_fault_of (λ item. (item, reader.new)) result
         (item_at (K.word kind.now) (K.meaning kind.now) reader.old) }
 {
     let line = reader.next_line()?;
@@ -66,7 +66,7 @@ pub(crate) fn read_items<K: LineKind>(
     kind: &K,
     reader: &mut Reader<'_>,
 ) -> Result<Items<K::Item>, CertError>
-    ensures { Gives fault_of (λ items. (items, reader.new)) result
+    ensures { Gives cert_fault_of (λ items. (items, reader.new)) result
         (items_at (K.word kind.now) (K.meaning kind.now) reader.old) }
 {
     let mut items = Items::empty(alloc);

@@ -1,6 +1,6 @@
 ghost use Rattle.std.specs.Prelude.{◌≡◌, ◌+◌, IfOk};
 ghost use Rattle.sdc_base.specs.Answers.{Gives};
-ghost use Rattle.certificate.specs.Faults.{at_line, fault_of};
+ghost use Rattle.certificate.specs.Faults.{at_line, cert_fault_of};
 ghost use Rattle.certificate.specs.Pieces.{pieces, line_feed};
 ghost use Rattle.certificate.specs.Certificates as certificates;
 ghost use Rattle.certificate.specs.ExtraReadings.{heading_at, begins_with_line};
@@ -52,7 +52,7 @@ fn reader_of<'a>(bytes: &'a [u8]) -> Reader<'a>
 /// The version of the first line, and a reader behind that line.
 #[tactic(auto, unfolding(crate::specs::Certificates::version_at))]
 pub(crate) fn behind_version<'a>(bytes: &'a [u8]) -> Result<(Version, Reader<'a>), CertError>
-    ensures { Gives fault_of (λ start. start) result (certificates.version_at (pieces line_feed bytes.now)) }
+    ensures { Gives cert_fault_of (λ start. start) result (certificates.version_at (pieces line_feed bytes.now)) }
 {
     let version = first_version(bytes)?;
     let mut reader = reader_of(bytes);
@@ -63,7 +63,7 @@ pub(crate) fn behind_version<'a>(bytes: &'a [u8]) -> Result<(Version, Reader<'a>
 // The version with whose first line the bytes begin.
 #[tactic(auto, using(crate::proofs::LineSteps::version_by_head))]
 fn first_version(bytes: &[u8]) -> Result<Version, CertError>
-    ensures { Gives fault_of (λ version. version) result
+    ensures { Gives cert_fault_of (λ version. version) result
         (at_line 1 (certificates.first_version (pieces line_feed bytes.now))) }
 {
     if bytes.is_empty() {
@@ -88,7 +88,7 @@ fn first_version(bytes: &[u8]) -> Result<Version, CertError>
 /// A reader behind the first line, which must be this one.
 #[tactic(auto, unfolding(crate::specs::ExtraReadings::heading_at))]
 pub(crate) fn behind_heading<'a>(heading: &[u8], bytes: &'a [u8]) -> Result<Reader<'a>, CertError>
-    ensures { Gives fault_of (λ reader. reader) result (heading_at heading.now (pieces line_feed bytes.now)) }
+    ensures { Gives cert_fault_of (λ reader. reader) result (heading_at heading.now (pieces line_feed bytes.now)) }
 {
     let mut reader = reader_of(bytes);
     if bytes.is_empty() {
@@ -129,7 +129,7 @@ impl<'a> Reader<'a> {
     /// The next line, which LF must end.
     #[tactic(auto, using(crate::proofs::LineSteps::line_open, crate::proofs::LineSteps::line_first))]
     pub(crate) fn next_line(&mut self) -> Result<Line<'a>, CertError>
-        ensures exact { Gives fault_of (λ line. (line.text.now, self.new)) result
+        ensures exact { Gives cert_fault_of (λ line. (line.text.now, self.new)) result
             (certificates.next_line self.old.given self.old.lines) }
         ensures number { IfOk result (λ line. line.number ≡ self.old.given + 1) }
     {
@@ -162,7 +162,7 @@ impl<'a> Reader<'a> {
     /// There must be no line left, and no byte.
     #[tactic(auto, using(crate::proofs::LineSteps::over_more))]
     pub(crate) fn end(&self) -> Result<(), CertError>
-        ensures { Gives fault_of (λ fine. fine) result (certificates.end_at self.now.given self.now.lines) }
+        ensures { Gives cert_fault_of (λ fine. fine) result (certificates.end_at self.now.given self.now.lines) }
     {
         if !self.rest.is_empty() {
             return Err(self.fault(CertWhy::Shape));

@@ -1,6 +1,6 @@
 ghost use Rattle.std.specs.Prelude.{◌≡◌, IfOk, codes};
 ghost use Rattle.sdc_base.specs.Answers.{Gives};
-ghost use Rattle.certificate.specs.Faults.{fault_of};
+ghost use Rattle.certificate.specs.Faults.{cert_fault_of};
 ghost use Rattle.certificate.specs.TokenLists.{end_of};
 ghost use Rattle.certificate.specs.LineReadings.{step_of, refutation_of, world_of};
 ghost use Rattle.certificate.specs.MethodReadings.{method_of, count_of};
@@ -37,7 +37,7 @@ use worlds::Refuted;
 /// exactly these bytes as its text in their version, so each has one spelling per version. The cost is the number of
 /// bytes; memory is taken for the lists of the certificate alone. The format is argus's own.
 pub fn read_certificate(alloc: Global, bytes: &[u8]) -> Result<Certificate, CertError>
-    ensures exact { Gives fault_of (λ certificate. certificate) result (certificate_of bytes.now) }
+    ensures exact { Gives cert_fault_of (λ certificate. certificate) result (certificate_of bytes.now) }
     ensures spelling { IfOk result (λ certificate. IsTextOf bytes.now certificate) }
     ensures spellable { IfOk result (λ certificate. IsSpellable certificate) }
     ensures within { IfOk result (λ certificate. IsWithinTypes certificate) }
@@ -49,7 +49,7 @@ pub fn read_certificate(alloc: Global, bytes: &[u8]) -> Result<Certificate, Cert
 // The certificate of which the bytes are the text, line by line.
 #[tactic(auto, unfolding(crate::specs::Certificates::certificate_of))]
 fn read_lines(alloc: Global, bytes: &[u8]) -> Result<Certificate, CertError>
-    ensures { Gives fault_of (λ certificate. certificate) result (certificate_of bytes.now) }
+    ensures { Gives cert_fault_of (λ certificate. certificate) result (certificate_of bytes.now) }
 {
     let (version, mut reader) = behind_version(bytes)?;
     let method = method_line(alloc, &mut reader)?;
@@ -77,7 +77,7 @@ fn read_lines(alloc: Global, bytes: &[u8]) -> Result<Certificate, CertError>
 // The hidden cells, where there is a line of them.
 #[tactic(auto, unfolding(crate::specs::Certificates::hidden_at))]
 fn hidden_at(alloc: Global, reader: &mut Reader<'_>) -> Result<Items<u32>, CertError>
-    ensures { Gives fault_of (λ cells. (cells, reader.new)) result (certificates.hidden_at reader.old) }
+    ensures { Gives cert_fault_of (λ cells. (cells, reader.new)) result (certificates.hidden_at reader.old) }
 {
     if reader.is_next(b"hidden") {
         return read_item(alloc, &CellsLine { word: b"hidden" }, reader);
@@ -87,21 +87,22 @@ fn hidden_at(alloc: Global, reader: &mut Reader<'_>) -> Result<Items<u32>, CertE
 
 // The line of the method.
 fn method_line(alloc: Global, reader: &mut Reader<'_>) -> Result<Method, CertError>
-    ensures { Gives fault_of (λ method. (method, reader.new)) result (item_at (codes "method") method_of reader.old) }
+    ensures { Gives cert_fault_of (λ method. (method, reader.new)) result
+        (item_at (codes "method") method_of reader.old) }
 {
     read_item(alloc, &MethodLine, reader)
 }
 
 // A line of a count, by its word.
 fn count_line(alloc: Global, word: &[u8], reader: &mut Reader<'_>) -> Result<u32, CertError>
-    ensures { Gives fault_of (λ count. (count, reader.new)) result (item_at word.now count_of reader.old) }
+    ensures { Gives cert_fault_of (λ count. (count, reader.new)) result (item_at word.now count_of reader.old) }
 {
     read_item(alloc, &CountLine { word }, reader)
 }
 
 // The lines of the steps.
 fn step_lines(alloc: Global, reader: &mut Reader<'_>) -> Result<Items<PlanStep>, CertError>
-    ensures { Gives fault_of (λ steps. (steps, reader.new)) result (items_at (codes "step") step_of reader.old) }
+    ensures { Gives cert_fault_of (λ steps. (steps, reader.new)) result (items_at (codes "step") step_of reader.old) }
 {
     read_items(alloc, &StepLine, reader)
 }
@@ -112,7 +113,7 @@ fn refutation_lines(
     word: &[u8],
     reader: &mut Reader<'_>,
 ) -> Result<Items<Refuted>, CertError>
-    ensures { Gives fault_of (λ all. (all, reader.new)) result (items_at word.now refutation_of reader.old) }
+    ensures { Gives cert_fault_of (λ all. (all, reader.new)) result (items_at word.now refutation_of reader.old) }
 {
     read_items(alloc, &RefutationLine { word }, reader)
 }
@@ -124,7 +125,7 @@ fn world_lines(
     hidden: &[u32],
     reader: &mut Reader<'_>,
 ) -> Result<Items<WorldLine>, CertError>
-    ensures { Gives fault_of (λ worlds. (worlds, reader.new)) result
+    ensures { Gives cert_fault_of (λ worlds. (worlds, reader.new)) result
         (items_at (codes "world") (world_of version hidden.now) reader.old) }
 {
     let kind = TableLine {
@@ -137,7 +138,7 @@ fn world_lines(
 
 // The last line.
 fn end_line(alloc: Global, reader: &mut Reader<'_>) -> Result<(), CertError>
-    ensures { Gives fault_of (λ fine. (fine, reader.new)) result (item_at (codes "end") end_of reader.old) }
+    ensures { Gives cert_fault_of (λ fine. (fine, reader.new)) result (item_at (codes "end") end_of reader.old) }
 {
     read_item(alloc, &WordLine { word: b"end" }, reader)
 }

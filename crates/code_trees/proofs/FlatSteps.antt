@@ -4,7 +4,7 @@ use Rattle.std.proofs.lemmas.List.{take_more, map-append}
 use Rattle.std.proofs.lemmas.Option.{slice_get_within, get_or_from_slice_get}
 use Rattle.sdc_base.specs.Trees.{Tree, codes, flat_tree}
 use Rattle.code_trees.specs.Growing.{tree_with_node}
-use Rattle.code_trees.specs.Faults.{code_fault, first_code_fault, fault_of, or_else, tree_unless, Names}
+use Rattle.code_trees.specs.Faults.{code_fault, first_code_fault, tree_fault_of, or_else, tree_unless, Names}
 use Rattle.sdc_base.specs.Answers.{Fails}
 use Rattle.code_trees.specs.FlatForm.{flat_of}
 use Rattle.code_trees.specs.declared.tree_fault.TreeFault.{TreeFault}
@@ -42,7 +42,7 @@ flat-next total all i code at none =
     ∙ ap (λ before. first_code_fault (i + 1 + 1) (total ∷ before) (drop (i + 1) all)) (sym (take-at all i code at))
 
 -- a fault that a step names is the first
-pub names-stop : (one : TreeFault) (told rest : Option TreeFault) (tree : Tree) → Names one told → Fails (fault_of one) (tree_unless (or_else told rest) tree)
+pub names-stop : (one : TreeFault) (told rest : Option TreeFault) (tree : Tree) → Names one told → Fails (tree_fault_of one) (tree_unless (or_else told rest) tree)
 names-stop (fault.NoCode n) told rest tree h = rw h refl
 names-stop (fault.Jump n) told rest tree h = rw h refl
 names-stop (fault.TooDeep n) told rest tree h = rw h refl
@@ -54,7 +54,7 @@ names-stop fault.Memory told rest tree h = tt
 
 pub flat-stop : (total : List ℕ) (all : List (List ℕ)) (i : ℕ) (code : List ℕ) (one : TreeFault) → slice_get all i ≡ Some code
     → first_code_fault 1 (total ∷ []) all ≡ first_code_fault (i + 1) (total ∷ take i all) (drop i all) → Names one (code_fault (total ∷ take i all) code (i + 1))
-    → Fails (fault_of one) (flat_of total all)
+    → Fails (tree_fault_of one) (flat_of total all)
 flat-stop total all i code one at so_far named =
-    subst (λ told. Fails (fault_of one) (tree_unless told (flat_tree total all))) (sym (so_far ∙ first-step (i + 1) i all (total ∷ take i all) code at))
+    subst (λ told. Fails (tree_fault_of one) (tree_unless told (flat_tree total all))) (sym (so_far ∙ first-step (i + 1) i all (total ∷ take i all) code at))
     (names-stop one (code_fault (total ∷ take i all) code (i + 1)) _ (flat_tree total all) named)

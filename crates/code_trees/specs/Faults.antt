@@ -33,9 +33,9 @@ tree_unless None tree = Ok tree
 tree_unless (Some one) tree = Err one
 
 -- the fault that an answer names; want of memory is none
-abbrev pub fault_of : TreeFault → Option TreeFault
-fault_of fault.Memory = None
-fault_of one = Some one
+abbrev pub tree_fault_of : TreeFault → Option TreeFault
+tree_fault_of fault.Memory = None
+tree_fault_of one = Some one
 
 -- What a step refused is the fault, unless memory ran out.
 abbrev pub Names : TreeFault → Option TreeFault → Type 0

@@ -1,6 +1,6 @@
 ghost use Rattle.std.specs.Prelude.{◌≡◌, IfErr};
 ghost use Rattle.sdc_base.specs.Answers.{Gives};
-ghost use Rattle.code_trees.specs.Faults.{fault_of, IsCodeFault};
+ghost use Rattle.code_trees.specs.Faults.{tree_fault_of, IsCodeFault};
 ghost use Rattle.code_trees.specs.FlatForm.{flat_of};
 
 use crate::code_tree::CodeTree;
@@ -15,7 +15,7 @@ use std::alloc::{AllocError, Global};
 /// `IsTotal`, `Twice` or `TooMany`, looked for in this order; want of memory is `Memory`. Either leaves what was
 /// lent as it was. It takes two look-ups a code. The rule is the manual's, the order of refusals argus's own.
 pub fn flat(alloc: Global, codes: &[Text], total: &Text) -> Result<CodeTree, TreeFault>
-    ensures exact { Gives fault_of (λ tree. tree) result (flat_of total.now codes.now) }
+    ensures exact { Gives tree_fault_of (λ tree. tree) result (flat_of total.now codes.now) }
     ensures kind { IfErr result IsCodeFault }
 {
     let mut nodes = total_alone(alloc, total.as_slice())?;

@@ -8,7 +8,7 @@ ghost use Rattle.sdc_base.specs.Trees.{find, IsCodeTree};
 ghost use Rattle.sdc_base.specs.Trees as spec;
 ghost use Rattle.sdc_base.specs.Answers.{Gives};
 ghost use Rattle.code_trees.specs.Growing.{tree_with_node};
-ghost use Rattle.code_trees.specs.Faults.{fault_of, AnswersFault};
+ghost use Rattle.code_trees.specs.Faults.{tree_fault_of, AnswersFault};
 ghost use Rattle.code_trees.specs.Levels.{level, boundaries, with_prefixes, codes_with_prefixes, level_fault, first_level_fault, levels_of, tree_of_codes, IsAscending, IsClosed, IsLevelFault};
 ghost use Rattle.code_trees.specs.Among.{IsIn, AreAmong};
 ghost use Rattle.code_trees.specs.LevelNodes.{AreLevelNodes};
@@ -46,7 +46,7 @@ pub fn from_levels(
     requires at_least_one_width { 0 < length widths.now }
     requires positive { All (λ width. 0 < width) widths.now }
     requires short { All (λ code. length code ≤ sum widths.now) codes.now }
-    ensures exact { Gives fault_of (λ tree. tree) result (levels_of total.now widths.now codes.now) }
+    ensures exact { Gives tree_fault_of (λ tree. tree) result (levels_of total.now widths.now codes.now) }
     ensures kind { IfErr result IsLevelFault }
     ensures nodes { IfOk result (λ tree. AreLevelNodes (boundaries 0 widths.now) codes.now (drop 1 (spec.codes tree))) }
 {

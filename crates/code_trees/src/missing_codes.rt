@@ -1,7 +1,7 @@
 ghost use Rattle.std.specs.Prelude.{◌≡◌, ◌<◌, ◌^◌, length, IfErr, OnOk};
 ghost use Rattle.sdc_base.specs.Trees.{codes, IsCodeTree};
 ghost use Rattle.sdc_base.specs.Answers.{Gives};
-ghost use Rattle.code_trees.specs.Faults.{fault_of, AnswersFault};
+ghost use Rattle.code_trees.specs.Faults.{tree_fault_of, AnswersFault};
 ghost use Rattle.code_trees.specs.MissingCodes.{missing_fault, with_code, with_codes, IsMissingFault};
 
 use crate::code_tree::CodeTree;
@@ -20,7 +20,7 @@ use std::alloc::{AllocError, Global};
 /// The rule is argus's own.
 pub fn with_missing(alloc: Global, tree: CodeTree, missing: &[Text]) -> Result<CodeTree, TreeFault>
     requires { length missing.now < 2 ^ 32 }
-    ensures exact { Gives fault_of (λ tree. tree) result (with_codes 1 tree missing.now) }
+    ensures exact { Gives tree_fault_of (λ tree. tree) result (with_codes 1 tree missing.now) }
     ensures kind { IfErr result IsMissingFault }
 {
     let mut nodes = tree.into_nodes();

@@ -1,6 +1,6 @@
 -- What is asked of a network (network flows; own).
 use Rattle.std.specs.Prelude.{◌≡◌, ◌+◌, ◌<◌, ◌^◌, true, length}
-use Rattle.sdc_base.specs.Grounds.{IsGround}
+use Rattle.sdc_base.specs.Patterns.{IsPattern}
 use Rattle.sdc_base.specs.HiddenSets.{is_hidden}
 use Rattle.sdc_base.specs.Signs.{AreSigns}
 use Rattle.flow_worlds.specs.Arcs.{AreArcsOf, arc_at}
@@ -10,7 +10,7 @@ use Rattle.flow_worlds.specs.declared.task.Task.{Task}
 
 -- the network is that of the hidden cells of a system with signs, and the asked step is over one of them
 pub record IsTask (task : Task) : Type 0 where
-  pub ground : IsGround task.system.now task.cells.now task.flags.now
+  pub ground : IsPattern task.system.now task.cells.now task.flags.now
   pub fewer_than_2_32 : task.system.now.cells < 2 ^ 32
   pub are_signs : AreSigns task.system.now.relations task.signs.now
   pub are_arcs : AreArcsOf task.system.now.relations task.signs.now task.system.now.cells task.arcs.now

@@ -1,5 +1,5 @@
 ghost use Rattle.std.specs.Prelude.{◌≡◌, ◌^◌, ◌≤ℤ◌, pos, true, IfOk, length};
-ghost use Rattle.sdc_base.specs.Grounds.{IsGround};
+ghost use Rattle.sdc_base.specs.Patterns.{IsPattern};
 ghost use Rattle.sdc_base.specs.HiddenSets.{is_hidden};
 ghost use Rattle.sdc_base.specs.Signs.{AreSigns};
 ghost use Rattle.flow_worlds.specs.Flows.{IsFlow, IsFlowOf};
@@ -48,7 +48,7 @@ pub fn flow(
     side: Side,
     target: i128,
 ) -> Result<FlowAnswer, Memory>
-    requires ground { IsGround system.now cells.now hidden.now.flags }
+    requires ground { IsPattern system.now cells.now hidden.now.flags }
     requires hidden { is_hidden hidden.now.flags cell ≡ true }
     requires signs { AreSigns system.now.relations signs.now }
     requires from_zero { pos 0 ≤ℤ target }

@@ -2,7 +2,7 @@ ghost use Rattle.std.specs.Prelude.{◌≡◌, ◌+◌, ◌-◌, ◌<◌, ◌≤
 ghost use Rattle.std.specs.List.{before_first, position_or_len};
 ghost use Rattle.sdc_base.specs.Trees.{codes};
 ghost use Rattle.sdc_base.specs.Answers.{Fails, Gives};
-ghost use Rattle.code_trees.specs.Faults.{fault_of};
+ghost use Rattle.code_trees.specs.Faults.{tree_fault_of};
 ghost use Rattle.hierarchy.specs.CodeList.{is_comma, is_quoted, text_without_quotes, code_of_line, codes_listed, codes_listed_from, codes_of, IsListFault, HoldsOfTotal, ListsFurtherCodes};
 
 use code_trees::{Nodes, TreeFault};
@@ -23,7 +23,7 @@ const MOST: usize = 5000;
 /// the manual's; commas in quotes and what is passed over are argus's own.
 pub fn read_codes(alloc: Global, bytes: &[u8], total: &Text) -> Result<Vec<Text>, TreeFault>
     requires { length bytes.now < 2 ^ 32 }
-    ensures exact { Gives fault_of (λ codes. codes.items) result (codes_of total.now bytes.now) }
+    ensures exact { Gives tree_fault_of (λ codes. codes.items) result (codes_of total.now bytes.now) }
     ensures kind { IfErr result IsListFault }
 {
     let mut known = Nodes::new(alloc);
@@ -57,7 +57,7 @@ fn keep(
     ensures ok { OnOk result (HoldsOfTotal known.old kept.old.items
         (λ total. ListsFurtherCodes total number kept.old.items code.now kept.new.items)) }
     ensures err { IfErr result (λ fault. HoldsOfTotal known.old kept.old.items (λ total. (lines : List (List ℕ))
-        → Fails (fault_of fault) (codes_listed_from total number kept.old.items code.now lines))) }
+        → Fails (tree_fault_of fault) (codes_listed_from total number kept.old.items code.now lines))) }
 {
     if code.is_empty() {
         return Ok(());

@@ -3,7 +3,7 @@ ghost use Rattle.sdc_base.specs.Blanks as spec;
 ghost use Rattle.sdc_base.specs.Trees.{codes, IsCodeTree};
 ghost use Rattle.sdc_base.specs.Answers.{Fails, Gives};
 ghost use Rattle.code_trees.specs.Growing.{tree_with_node};
-ghost use Rattle.code_trees.specs.Faults.{fault_of, AnswersFault};
+ghost use Rattle.code_trees.specs.Faults.{tree_fault_of, AnswersFault};
 ghost use Rattle.hierarchy.specs.Lead.{leads_of, line_fault, lead_line, lead_of, LeadLine, IsLeadFault};
 ghost use Rattle.code_trees.specs.Path.{IsPath, next_path};
 ghost use Rattle.hierarchy.specs.LeadPath.{tree_with_lines};
@@ -33,7 +33,7 @@ pub fn from_lead(
 ) -> Result<CodeTree, TreeFault>
     requires fewer_than_2_32 { length bytes.now < 2 ^ 32 }
     requires lead { 0 < length lead.now }
-    ensures exact { Gives fault_of (λ tree. tree) result (lead_of lead.now total.now bytes.now) }
+    ensures exact { Gives tree_fault_of (λ tree. tree) result (lead_of lead.now total.now bytes.now) }
     ensures kind { IfErr result IsLeadFault }
 {
     let mut nodes = total_alone(alloc, total.as_slice())?;
@@ -70,7 +70,7 @@ fn read_line(
         → tree_with_lines nodes.old path.old.items (lead_line lead.now number line.now ++ lines)
         ≡ tree_with_lines nodes.new path.new.items lines) }
     ensures err { IfErr result (λ fault. (lines : List LeadLine)
-        → Fails (fault_of fault) (tree_with_lines nodes.old path.old.items
+        → Fails (tree_fault_of fault) (tree_with_lines nodes.old path.old.items
         (lead_line lead.now number line.now ++ lines))) }
     ensures kind { IfErr result IsLeadFault }
     ensures tree { OnOk result (IsCodeTree nodes.new) }

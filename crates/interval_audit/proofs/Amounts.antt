@@ -14,7 +14,7 @@ use Rattle.sdc_base.specs.Totals.{sum_of}
 use Rattle.sdc_base.specs.Forms.{Term, coefficient}
 use Rattle.sdc_base.specs.HiddenSets.{is_hidden}
 use Rattle.sdc_base.specs.Refutations.{rise}
-use Rattle.sdc_base.specs.Components.{names}
+use Rattle.sdc_base.specs.Components.{mentions}
 use Rattle.sdc_base.specs.Systems.{Numbers, NamesCells, form}
 use Rattle.sdc_base.proofs.WholeNumbers.{times_up}
 use Rattle.sdc_base.specs.Worlds.{IsWorld, IsWithinBounds, amount_toward}
@@ -102,7 +102,7 @@ same_parts f g (part ∷ parts) same =
     or_true true = refl
     or_true false = refl
 
-pub same_form : (f g : Numbers) (r : Relation) → ((c : ℕ) → names r c ≡ true → f c ≡ g c) → form f r ≡ form g r
+pub same_form : (f g : Numbers) (r : Relation) → ((c : ℕ) → mentions r c ≡ true → f c ≡ g c) → form f r ≡ form g r
 same_form f g r same =
     let total : f r.total ≡ g r.total = same r.total (ap (λ b. b || list_any (λ p. p == r.total) r.parts) ((Decides-eqb r.total r.total).1 refl)) in
     let parts : sum_of f r.parts ≡ sum_of g r.parts = same_parts f g r.parts (λ part named. same part (ap (λ b. r.total == part || b) named ∙ or_true (r.total == part))) in
@@ -127,10 +127,10 @@ part_met group (part ∷ parts) is = one (group part) refl (λ rest. part_met gr
         let rest = more (ap (λ b. b || list_any group parts) (sym own) ∙ is) in
         (rest.0, ap (λ b. part == rest.0 || b) rest.1 ∙ or_true (part == rest.0), rest.2)
 
-pub met_by : (group : Group) (r : Relation) → is_met group r ≡ true → (c : ℕ) × (names r c ≡ true) × (group c ≡ true)
+pub met_by : (group : Group) (r : Relation) → is_met group r ≡ true → (c : ℕ) × (mentions r c ≡ true) × (group c ≡ true)
 met_by group r is = by (group r.total) refl
   where
-    by : (b : Bool) → group r.total ≡ b → (c : ℕ) × (names r c ≡ true) × (group c ≡ true)
+    by : (b : Bool) → group r.total ≡ b → (c : ℕ) × (mentions r c ≡ true) × (group c ≡ true)
     by true own = (r.total, ap (λ b. b || list_any (λ p. p == r.total) r.parts) ((Decides-eqb r.total r.total).1 refl), own)
     by false own =
         let rest = part_met group r.parts (ap (λ b. b || list_any group r.parts) (sym own) ∙ is) in
@@ -183,7 +183,7 @@ caps_kept system cells flags group den moves each world c below own = by (option
     by false is = All-cons K (CapBelow c) [] (cap_low system cells flags group den moves each world c below own) (All-nil K)
 
 -- on the cells that a relation which is met names, the moves are those of the world
-named_same : (system : System) (cells : List Cell) (flags : List Bool) (group : Group) (asked : ℕ) (den : ℤ) (moves : Numbers) → IsGroup system flags group asked → IsWorld system cells flags den moves → (number : ℕ) (r : Relation) → slice_get system.relations number ≡ Some r → is_met group r ≡ true → (c : ℕ) → names r c ≡ true → c < system.cells → moves_of group (amounts_of group system.cells moves) c ≡ moves c
+named_same : (system : System) (cells : List Cell) (flags : List Bool) (group : Group) (asked : ℕ) (den : ℤ) (moves : Numbers) → IsGroup system flags group asked → IsWorld system cells flags den moves → (number : ℕ) (r : Relation) → slice_get system.relations number ≡ Some r → is_met group r ≡ true → (c : ℕ) → mentions r c ≡ true → c < system.cells → moves_of group (amounts_of group system.cells moves) c ≡ moves c
 named_same system cells flags group asked den moves is world number r found met c named inside = by (group c) refl
   where
     by : (b : Bool) → group c ≡ b → moves_of group (amounts_of group system.cells moves) c ≡ moves c
@@ -198,7 +198,7 @@ named_same system cells flags group asked den moves is world number r found met 
         moves_out group (amounts_of group system.cells moves) c own ∙ sym (world.shown_stay c inside shown)
 
 -- a named cell is one of the system's
-pub named_inside : (system : System) (number : ℕ) (r : Relation) → slice_get system.relations number ≡ Some r → (c : ℕ) → names r c ≡ true → c < system.cells
+pub named_inside : (system : System) (number : ℕ) (r : Relation) → slice_get system.relations number ≡ Some r → (c : ℕ) → mentions r c ≡ true → c < system.cells
 named_inside system number r found c named = by (r.total == c) refl
   where
     inside : NamesCells system.cells r

@@ -11,7 +11,7 @@ use Rattle.sdc_base.specs.declared.relation.Relation.{Relation}
 use Rattle.sdc_base.specs.declared.system.System.{System}
 use Rattle.sdc_base.specs.Components.{AreLinked, AreRelated, IsChain}
 use Rattle.sdc_base.specs.Forms.{Term, coefficient}
-use Rattle.sdc_base.specs.Grounds.{IsGround}
+use Rattle.sdc_base.specs.Patterns.{IsPattern}
 use Rattle.sdc_base.specs.HiddenSets.{is_hidden}
 use Rattle.sdc_base.specs.Systems.{Numbers, number_at}
 use Rattle.sdc_base.proofs.Chains.{linked-same, linked-related, linked-then, linked-turned}
@@ -142,7 +142,7 @@ at_optimum walk well_formed kept blocked =
     let formed : NamesColumns walk.problem = well_formed_problem walk.problem well_formed in
     blocked_is walk well_formed kept.above_zero (values_are_allowed walk.problem walk.table formed kept) (duals_of walk.problem walk.table formed kept) (none_below walk.table kept.shaped blocked.none_below) (target_is_free walk.problem walk.table formed kept blocked.below) blocked
 
-pub stops_with : (system : System) (cells : List Cell) (flags : List Bool) (question : Question) (smaller : Group) (n : ℕ) (last : Table) (m : Multipliers) → IsGround system cells flags → IsGroup system flags smaller question.cell → IsComponentOf system.relations flags question.cell smaller → length (members smaller system.cells) ≤ most_members →
+pub stops_with : (system : System) (cells : List Cell) (flags : List Bool) (question : Question) (smaller : Group) (n : ℕ) (last : Table) (m : Multipliers) → IsPattern system cells flags → IsGroup system flags smaller question.cell → IsComponentOf system.relations flags question.cell smaller → length (members smaller system.cells) ≤ most_members →
     IsWalk (problem_of system cells smaller question) n last → IsBlocked (problem_of system cells smaller question) last → AreMultipliersOf system cells smaller last.den (slacks_of (problem_of system cells smaller question) last) m → StopsWith system cells flags question m
 stops_with system cells flags question smaller n last m ground is_group own few steps blocked read =
     let part : Problem = problem_of system cells smaller question in

@@ -3,7 +3,7 @@ use Rattle.std.proofs.Common.{◌≡◌, ◌⊎◌, inl, inr, ℕ, zero, suc, �
 use Rattle.std.specs.List.{list_any}
 use Rattle.std.proofs.lemmas.Bool.Decides.{Decides-eqb}
 use Rattle.sdc_base.specs.declared.relation.Relation.{Relation}
-use Rattle.sdc_base.specs.Components.{AreLinked, AreRelated, IsChain, names}
+use Rattle.sdc_base.specs.Components.{AreLinked, AreRelated, IsChain, mentions}
 use Rattle.sdc_base.specs.HiddenSets.{is_hidden}
 use Rattle.sdc_base.proofs.Chains.{linked-same, linked-related, linked-then}
 use Rattle.sdc_base.proofs.Connecting.{hidden-inside}
@@ -59,7 +59,7 @@ met_by_one p (x ∷ xs) c named is =
 -- ---- what is reached in so many steps
 
 joined : List Relation → List Bool → Group → Group
-joined relations flags group cell = group cell || (is_hidden flags cell && list_any (λ r. names r cell && is_met group r) relations)
+joined relations flags group cell = group cell || (is_hidden flags cell && list_any (λ r. mentions r cell && is_met group r) relations)
 
 reached : List Relation → List Bool → ℕ → ℕ → Group
 reached relations flags asked zero cell = (cell == asked) && is_hidden flags cell
@@ -70,11 +70,11 @@ record IsLinkedGroup (relations : List Relation) (flags : List Bool) (asked : �
   hidden : (cell : ℕ) → group cell ≡ true → is_hidden flags cell ≡ true
   linked : (cell : ℕ) → group cell ≡ true → AreLinked relations flags asked cell
 
-one_joins : (relations : List Relation) (flags : List Bool) (asked : ℕ) (group : Group) (cell : ℕ) → IsLinkedGroup relations flags asked group → is_hidden flags cell ≡ true → list_any (λ r. names r cell && is_met group r) relations ≡ true → AreLinked relations flags asked cell
+one_joins : (relations : List Relation) (flags : List Bool) (asked : ℕ) (group : Group) (cell : ℕ) → IsLinkedGroup relations flags asked group → is_hidden flags cell ≡ true → list_any (λ r. mentions r cell && is_met group r) relations ≡ true → AreLinked relations flags asked cell
 one_joins relations flags asked group cell are hides any =
-    let found : (k : ℕ) × (r : Relation) × (slice_get relations k ≡ Some r) × ((names r cell && is_met group r) ≡ true) = any_place (λ r. names r cell && is_met group r) relations any in
+    let found : (k : ℕ) × (r : Relation) × (slice_get relations k ≡ Some r) × ((mentions r cell && is_met group r) ≡ true) = any_place (λ r. mentions r cell && is_met group r) relations any in
     let r : Relation = found.1 in
-    let tests : (names r cell ≡ true) × (is_met group r ≡ true) = both (names r cell) (is_met group r) found.3 in
+    let tests : (mentions r cell ≡ true) × (is_met group r ≡ true) = both (mentions r cell) (is_met group r) found.3 in
     let one : (x : ℕ) × (group x ≡ true) × (list_any (λ y. y == x) (r.total ∷ r.parts) ≡ true) = any_found group (r.total ∷ r.parts) tests.1 in
     let related : AreRelated relations flags one.0 cell = record { one_hidden = are.hidden one.0 one.1; other_hidden = hides; number = found.0; relation = r; at = found.2; names_one = one.2; names_other = tests.0 } in
     linked-then relations flags asked one.0 cell (are.linked one.0 one.1) (linked-related relations flags one.0 cell related)
@@ -83,15 +83,15 @@ joined_linked : (relations : List Relation) (flags : List Bool) (asked : ℕ) (g
 unfolding joined
 joined_linked relations flags asked group are = record {
   hidden = λ cell is.
-      elim (either (group cell) (is_hidden flags cell && list_any (λ r. names r cell && is_met group r) relations) is) as (λ _. is_hidden flags cell ≡ true) [
+      elim (either (group cell) (is_hidden flags cell && list_any (λ r. mentions r cell && is_met group r) relations) is) as (λ _. is_hidden flags cell ≡ true) [
         | inl own ↦ are.hidden cell own
-        | inr joins ↦ (both (is_hidden flags cell) (list_any (λ r. names r cell && is_met group r) relations) joins).0
+        | inr joins ↦ (both (is_hidden flags cell) (list_any (λ r. mentions r cell && is_met group r) relations) joins).0
       ];
   linked = λ cell is.
-      elim (either (group cell) (is_hidden flags cell && list_any (λ r. names r cell && is_met group r) relations) is) as (λ _. AreLinked relations flags asked cell) [
+      elim (either (group cell) (is_hidden flags cell && list_any (λ r. mentions r cell && is_met group r) relations) is) as (λ _. AreLinked relations flags asked cell) [
         | inl own ↦ are.linked cell own
         | inr joins ↦
-            let tests = both (is_hidden flags cell) (list_any (λ r. names r cell && is_met group r) relations) joins in
+            let tests = both (is_hidden flags cell) (list_any (λ r. mentions r cell && is_met group r) relations) joins in
             one_joins relations flags asked group cell are tests.0 tests.1
       ];
 }
@@ -106,7 +106,7 @@ reached_linked relations flags asked (suc steps) = joined_linked relations flags
 
 reached_more : (relations : List Relation) (flags : List Bool) (asked steps cell : ℕ) → reached relations flags asked steps cell ≡ true → reached relations flags asked (suc steps) cell ≡ true
 unfolding reached joined
-reached_more relations flags asked steps cell is = or_first (reached relations flags asked steps cell) (is_hidden flags cell && list_any (λ r. names r cell && is_met (reached relations flags asked steps) r) relations) is
+reached_more relations flags asked steps cell is = or_first (reached relations flags asked steps cell) (is_hidden flags cell && list_any (λ r. mentions r cell && is_met (reached relations flags asked steps) r) relations) is
 
 reached_asked : (relations : List Relation) (flags : List Bool) (asked steps : ℕ) → is_hidden flags asked ≡ true → reached relations flags asked steps asked ≡ true
 unfolding reached
@@ -119,9 +119,9 @@ reached_next relations flags asked steps one other is related =
     let group : Group = reached relations flags asked steps in
     let r : Relation = related.relation in
     let met : is_met group r ≡ true = met_by_one group (r.total ∷ r.parts) one related.names_one is in
-    or_second (group other) (is_hidden flags other && list_any (λ r. names r other && is_met group r) relations)
-    (and_true (is_hidden flags other) (list_any (λ r. names r other && is_met group r) relations) related.other_hidden
-    (place_any (λ r. names r other && is_met group r) relations related.number r related.at (and_true (names r other) (is_met group r) related.names_other met)))
+    or_second (group other) (is_hidden flags other && list_any (λ r. mentions r other && is_met group r) relations)
+    (and_true (is_hidden flags other) (list_any (λ r. mentions r other && is_met group r) relations) related.other_hidden
+    (place_any (λ r. mentions r other && is_met group r) relations related.number r related.at (and_true (mentions r other) (is_met group r) related.names_other met)))
 
 -- ---- no more are reached at last
 

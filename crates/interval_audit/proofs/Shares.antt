@@ -11,7 +11,7 @@ use Rattle.sdc_base.specs.declared.cell.Cell.{Cell}
 use Rattle.sdc_base.specs.declared.relation.Relation.{Relation}
 use Rattle.sdc_base.specs.declared.system.System.{System}
 use Rattle.sdc_base.specs.Totals.{sum_of, sum_below}
-use Rattle.sdc_base.specs.Components.{names}
+use Rattle.sdc_base.specs.Components.{mentions}
 use Rattle.sdc_base.specs.Forms.{Term, form_times, coefficient}
 use Rattle.sdc_base.specs.HiddenSets.{is_hidden}
 use Rattle.sdc_base.specs.Refutations.{rise, share, share_at, bound_sum}
@@ -130,9 +130,9 @@ unbounded_none system cells group c (w ∷ rows) none all =
 unnamed_out : (system : System) (cells : List Cell) (flags : List Bool) (group : Group) (asked c number : ℕ) → IsGroup system flags group asked → is_hidden flags c ≡ true → group c ≡ false → meets group system.relations number ≡ true → has_at system.relations c number ≡ pos 0
 unnamed_out system cells flags group asked c number is hides out test = by (slice_get system.relations number) refl
   where
-    outside : (r : Relation) → slice_get system.relations number ≡ Some r → is_met group r ≡ true → names r c ≡ false
+    outside : (r : Relation) → slice_get system.relations number ≡ Some r → is_met group r ≡ true → mentions r c ≡ false
     outside r found met =
-        elim (names r c) as (λ b. names r c ≡ b → b ≡ false) [
+        elim (mentions r c) as (λ b. mentions r c ≡ b → b ≡ false) [
           | true ↦ λ named. absurd (let from = met_by group r met in let no : true ≡ false = sym (is.closed number r from.0 c found from.1 named from.2 hides) ∙ out in cc)
           | false ↦ λ named. refl
         ] refl

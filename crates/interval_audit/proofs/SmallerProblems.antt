@@ -10,14 +10,14 @@ use Rattle.std.proofs.lemmas.List.Elements.{filter-append, All-nil, All-cons, Al
 use Rattle.sdc_base.specs.declared.cell.Cell.{Cell}
 use Rattle.sdc_base.specs.declared.relation.Relation.{Relation}
 use Rattle.sdc_base.specs.declared.system.System.{System}
-use Rattle.sdc_base.specs.Components.{names}
+use Rattle.sdc_base.specs.Components.{mentions}
 use Rattle.sdc_base.specs.Forms.{Term, form_times}
 use Rattle.sdc_base.specs.HiddenSets.{is_hidden}
 use Rattle.sdc_base.specs.Systems.{Numbers, NamesCells}
 use Rattle.sdc_base.proofs.TotalLemmas.{sum_of-cons}
 use Rattle.sdc_base.proofs.WeakDual.{value_of}
 use Rattle.tableau.specs.declared.problem.LinRow.{LinRow}
-use Rattle.tableau.specs.PartProblems.{Selection, widened, narrowed, IsPartOf, SelectsRows}
+use Rattle.tableau.specs.PartProblems.{Selection, amounts_in_whole, amounts_in_part, IsPartOf, SelectsRows}
 use Rattle.tableau.specs.Problems as problems
 use Rattle.interval_audit.specs.declared.question.Question.{Question}
 use Rattle.interval_audit.specs.FewerHidden.{cell_of_column, is_left_out}
@@ -140,21 +140,21 @@ labels_kept system cells group smaller each =
 -- ---- amounts at the columns of a cell
 
 wide_up : (system : System) (cells : List Cell) (flags : List Bool) (group smaller : Group) (x : Numbers) (c : ℕ) → c < system.cells → group c ≡ true →
-    widened (selection system cells flags group smaller) x (up_column group c) ≡ (if smaller c then x (up_column smaller c) else pos 0)
+    amounts_in_whole (selection system cells flags group smaller) x (up_column group c) ≡ (if smaller c then x (up_column smaller c) else pos 0)
 wide_up system cells flags group smaller x c below own =
     ap (λ d. if smaller d then x (carried group smaller system.cells (up_column group c)) else pos 0) (cell_up group system.cells c below own)
     ∙ ap (λ j. if smaller c then x j else pos 0) (carried_up group smaller system.cells c below own)
 
 wide_down : (system : System) (cells : List Cell) (flags : List Bool) (group smaller : Group) (x : Numbers) (c : ℕ) → c < system.cells → group c ≡ true →
-    widened (selection system cells flags group smaller) x (down_column group c) ≡ (if smaller c then x (down_column smaller c) else pos 0)
+    amounts_in_whole (selection system cells flags group smaller) x (down_column group c) ≡ (if smaller c then x (down_column smaller c) else pos 0)
 wide_down system cells flags group smaller x c below own =
     ap (λ d. if smaller d then x (carried group smaller system.cells (down_column group c)) else pos 0) (cell_down group system.cells c below own)
     ∙ ap (λ j. if smaller c then x j else pos 0) (carried_down group smaller system.cells c below own)
 
 wide_moves : (system : System) (cells : List Cell) (flags : List Bool) (group smaller : Group) (x : Numbers) (c : ℕ) → ((c : ℕ) → smaller c ≡ true → group c ≡ true) → c < system.cells →
-    moves_of group (widened (selection system cells flags group smaller) x) c ≡ moves_of smaller x c
+    moves_of group (amounts_in_whole (selection system cells flags group smaller) x) c ≡ moves_of smaller x c
 wide_moves system cells flags group smaller x c each below =
-    let y : Numbers = widened (selection system cells flags group smaller) x in
+    let y : Numbers = amounts_in_whole (selection system cells flags group smaller) x in
     elim (group c) as (λ b. group c ≡ b → (if b then y (up_column group c) -ℤ y (down_column group c) else pos 0) ≡ moves_of smaller x c) [
       | true ↦ λ own.
           ap (λ z. z -ℤ y (down_column group c)) (wide_up system cells flags group smaller x c below own)
@@ -172,9 +172,9 @@ left_out flags group n column c below is shown =
     ap (λ b. b && not (is_hidden flags (cell_of_column group n column))) test ∙ ap (λ d. not (is_hidden flags d)) is ∙ ap not shown
 
 narrow_moves : (system : System) (cells : List Cell) (flags : List Bool) (group smaller : Group) (x : Numbers) (c : ℕ) → ((c : ℕ) → smaller c ≡ true → group c ≡ true) → ((column : ℕ) → is_left_out flags group system.cells column ≡ true → x column ≡ pos 0) →
-    (is_hidden flags c ≡ true → smaller c ≡ true) → c < system.cells → moves_of smaller (narrowed (selection system cells flags group smaller) x) c ≡ moves_of group x c
+    (is_hidden flags c ≡ true → smaller c ≡ true) → c < system.cells → moves_of smaller (amounts_in_part (selection system cells flags group smaller) x) c ≡ moves_of group x c
 narrow_moves system cells flags group smaller x c each none joins below =
-    let y : Numbers = narrowed (selection system cells flags group smaller) x in
+    let y : Numbers = amounts_in_part (selection system cells flags group smaller) x in
     elim (smaller c) as (λ b. smaller c ≡ b → (if b then y (up_column smaller c) -ℤ y (down_column smaller c) else pos 0) ≡ moves_of group x c) [
       | true ↦ λ own.
           ap (λ j. x j -ℤ y (down_column smaller c)) (carried_up smaller group system.cells c below own)
@@ -200,9 +200,9 @@ same_on x y (t ∷ terms) all =
     omega (arith, ints, sum_of-cons (λ (t : Term). t.1 *ℤ x t.0) t terms, sum_of-cons (λ (t : Term). t.1 *ℤ y t.0) t terms, ap (λ z. t.1 *ℤ z) (All-head (λ (t : Term). x t.0 ≡ y t.0) t terms all), same_on x y terms (All-tail (λ (t : Term). x t.0 ≡ y t.0) t terms all))
 
 wide_entries : (system : System) (cells : List Cell) (flags : List Bool) (group smaller : Group) (x : Numbers) (terms : List Term) → ((c : ℕ) → smaller c ≡ true → group c ≡ true) → All (λ (t : Term). t.0 < system.cells) terms →
-    comes_to (widened (selection system cells flags group smaller) x) (entries_of group system.cells terms) ≡ comes_to x (entries_of smaller system.cells terms)
+    comes_to (amounts_in_whole (selection system cells flags group smaller) x) (entries_of group system.cells terms) ≡ comes_to x (entries_of smaller system.cells terms)
 wide_entries system cells flags group smaller x terms each inside =
-    let y : Numbers = widened (selection system cells flags group smaller) x in
+    let y : Numbers = amounts_in_whole (selection system cells flags group smaller) x in
     entries_are_value group system.cells y terms inside
     ∙ same_on (moves_of group y) (moves_of smaller x) terms (All-weaker (λ (t : Term). t.0 < system.cells) (λ (t : Term). moves_of group y t.0 ≡ moves_of smaller x t.0) (λ t below. wide_moves system cells flags group smaller x t.0 each below) terms inside)
     ∙ sym (entries_are_value smaller system.cells x terms inside)
@@ -212,9 +212,9 @@ abbrev Joins : System → List Bool → Group → Term → Type 0
 Joins system flags smaller t = (t.0 < system.cells) × (is_hidden flags t.0 ≡ true → smaller t.0 ≡ true)
 
 narrow_entries : (system : System) (cells : List Cell) (flags : List Bool) (group smaller : Group) (x : Numbers) (terms : List Term) → ((c : ℕ) → smaller c ≡ true → group c ≡ true) → ((column : ℕ) → is_left_out flags group system.cells column ≡ true → x column ≡ pos 0) → All (Joins system flags smaller) terms →
-    comes_to (narrowed (selection system cells flags group smaller) x) (entries_of smaller system.cells terms) ≡ comes_to x (entries_of group system.cells terms)
+    comes_to (amounts_in_part (selection system cells flags group smaller) x) (entries_of smaller system.cells terms) ≡ comes_to x (entries_of group system.cells terms)
 narrow_entries system cells flags group smaller x terms each none joins =
-    let y : Numbers = narrowed (selection system cells flags group smaller) x in
+    let y : Numbers = amounts_in_part (selection system cells flags group smaller) x in
     let inside : All (λ (t : Term). t.0 < system.cells) terms = All-weaker (Joins system flags smaller) (λ (t : Term). t.0 < system.cells) (λ t h. h.0) terms joins in
     entries_are_value smaller system.cells y terms inside
     ∙ same_on (moves_of smaller y) (moves_of group x) terms (All-weaker (Joins system flags smaller) (λ (t : Term). moves_of smaller y t.0 ≡ moves_of group x t.0) (λ t h. narrow_moves system cells flags group smaller x t.0 each none h.1 h.0) terms joins)
@@ -255,7 +255,7 @@ form_joins : (system : System) (flags : List Bool) (smaller : Group) (asked k : 
 form_joins system flags smaller asked k r times is found met =
     let J : Term → Type 0 = Joins system flags smaller in
     let one : (c : ℕ) × (smaller c ≡ true) × (list_any (λ y. y == c) (r.total ∷ r.parts) ≡ true) = any_found smaller (r.total ∷ r.parts) met in
-    let joins : (c : ℕ) → names r c ≡ true → is_hidden flags c ≡ true → smaller c ≡ true = λ c named hides. is.closed k r one.0 c found one.2 named one.1 hides in
+    let joins : (c : ℕ) → mentions r c ≡ true → is_hidden flags c ≡ true → smaller c ≡ true = λ c named hides. is.closed k r one.0 c found one.2 named one.1 hides in
     let inside : NamesCells system.cells r = found_inside system k r found in
     let named : All (λ c. is_hidden flags c ≡ true → smaller c ≡ true) (r.total ∷ r.parts) = all_named (λ c. is_hidden flags c ≡ true → smaller c ≡ true) (r.total ∷ r.parts) joins in
     let parts : (xs : List ℕ) → All (λ c. c < system.cells) xs → All (λ c. is_hidden flags c ≡ true → smaller c ≡ true) xs → All J (map (λ part. (part, neg_ℤ times)) xs) = both_mapped system flags smaller (neg_ℤ times) in
@@ -266,8 +266,8 @@ form_joins system flags smaller asked k r times is found met =
 
 record AreRows (s : Selection) (whole part : LinRow) : Type 0 where
   bound : part.bound ≡ whole.bound
-  wide : (x : Numbers) → comes_to (widened s x) whole.entries ≡ comes_to x part.entries
-  narrow : (x : Numbers) → ((column : ℕ) → s.leaves_out column ≡ true → x column ≡ pos 0) → comes_to (narrowed s x) part.entries ≡ comes_to x whole.entries
+  wide : (x : Numbers) → comes_to (amounts_in_whole s x) whole.entries ≡ comes_to x part.entries
+  narrow : (x : Numbers) → ((column : ℕ) → s.leaves_out column ≡ true → x column ≡ pos 0) → comes_to (amounts_in_part s x) part.entries ≡ comes_to x whole.entries
 
 cap_rows_are : (system : System) (cells : List Cell) (flags : List Bool) (group smaller : Group) (asked c : ℕ) (bound : ℤ) → AreGroups system flags group smaller asked → c < system.cells → smaller c ≡ true →
     AreRows (selection system cells flags group smaller) (record { entries = (up_column group c, pos 1) ∷ []; bound = bound }) (record { entries = (up_column smaller c, pos 1) ∷ []; bound = bound })
@@ -275,8 +275,8 @@ cap_rows_are system cells flags group smaller asked c bound are below own =
     let s : Selection = selection system cells flags group smaller in
     record {
       bound = refl;
-      wide = λ x. cap_comes_to (widened s x) (up_column group c) ∙ wide_up system cells flags group smaller x c below (are.within c own) ∙ ap (λ b. if b then x (up_column smaller c) else pos 0) own ∙ sym (cap_comes_to x (up_column smaller c));
-      narrow = λ x none. cap_comes_to (narrowed s x) (up_column smaller c) ∙ ap x (carried_up smaller group system.cells c below own) ∙ sym (cap_comes_to x (up_column group c));
+      wide = λ x. cap_comes_to (amounts_in_whole s x) (up_column group c) ∙ wide_up system cells flags group smaller x c below (are.within c own) ∙ ap (λ b. if b then x (up_column smaller c) else pos 0) own ∙ sym (cap_comes_to x (up_column smaller c));
+      narrow = λ x none. cap_comes_to (amounts_in_part s x) (up_column smaller c) ∙ ap x (carried_up smaller group system.cells c below own) ∙ sym (cap_comes_to x (up_column group c));
     }
 
 floor_rows_are : (system : System) (cells : List Cell) (flags : List Bool) (group smaller : Group) (asked c : ℕ) (bound : ℤ) → AreGroups system flags group smaller asked → c < system.cells → smaller c ≡ true →
@@ -285,8 +285,8 @@ floor_rows_are system cells flags group smaller asked c bound are below own =
     let s : Selection = selection system cells flags group smaller in
     record {
       bound = refl;
-      wide = λ x. cap_comes_to (widened s x) (down_column group c) ∙ wide_down system cells flags group smaller x c below (are.within c own) ∙ ap (λ b. if b then x (down_column smaller c) else pos 0) own ∙ sym (cap_comes_to x (down_column smaller c));
-      narrow = λ x none. cap_comes_to (narrowed s x) (down_column smaller c) ∙ ap x (carried_down smaller group system.cells c below own) ∙ sym (cap_comes_to x (down_column group c));
+      wide = λ x. cap_comes_to (amounts_in_whole s x) (down_column group c) ∙ wide_down system cells flags group smaller x c below (are.within c own) ∙ ap (λ b. if b then x (down_column smaller c) else pos 0) own ∙ sym (cap_comes_to x (down_column smaller c));
+      narrow = λ x none. cap_comes_to (amounts_in_part s x) (down_column smaller c) ∙ ap x (carried_down smaller group system.cells c below own) ∙ sym (cap_comes_to x (down_column group c));
     }
 
 form_rows_are : (system : System) (cells : List Cell) (flags : List Bool) (group smaller : Group) (asked k : ℕ) (times : ℤ) → AreGroups system flags group smaller asked → meets smaller system.relations k ≡ true →
@@ -311,7 +311,7 @@ rows_are system cells flags group smaller asked (Form k) are is own = form_rows_
 rows_are system cells flags group smaller asked (Negated k) are is own = form_rows_are system cells flags group smaller asked k (negsuc 0) are own
 
 unmet_row : (system : System) (cells : List Cell) (flags : List Bool) (group smaller : Group) (asked k : ℕ) (times : ℤ) (x : Numbers) → AreGroups system flags group smaller asked → meets group system.relations k ≡ true → meets smaller system.relations k ≡ false →
-    comes_to (widened (selection system cells flags group smaller) x) (entries_of group system.cells (form_at system.relations times k)) ≡ pos 0
+    comes_to (amounts_in_whole (selection system cells flags group smaller) x) (entries_of group system.cells (form_at system.relations times k)) ≡ pos 0
 unmet_row system cells flags group smaller asked k times x are met none =
     let found : (r : Relation) × (slice_get system.relations k ≡ Some r) × (is_met group r ≡ true) = found_met group system.relations k met in
     let r : Relation = found.0 in
@@ -323,11 +323,11 @@ unmet_row system cells flags group smaller asked k times x are met none =
     ∙ ap (λ z. times *ℤ z) (unmet_holds smaller x r out) ∙ *ℤ_comm times (pos 0) ∙ omega (arith, ints)
 
 rows_not : (system : System) (cells : List Cell) (flags : List Bool) (group smaller : Group) (asked : ℕ) (label : Label) → AreGroups system flags group smaller asked → IsLabel system cells group label → keeps smaller system.relations label ≡ false →
-    (x : Numbers) → comes_to (widened (selection system cells flags group smaller) x) (row_of system cells group label).entries ≡ pos 0
+    (x : Numbers) → comes_to (amounts_in_whole (selection system cells flags group smaller) x) (row_of system cells group label).entries ≡ pos 0
 rows_not system cells flags group smaller asked (CapAbove c) are is out x =
-    cap_comes_to (widened (selection system cells flags group smaller) x) (up_column group c) ∙ wide_up system cells flags group smaller x c is.0 is.1 ∙ ap (λ b. if b then x (up_column smaller c) else pos 0) out
+    cap_comes_to (amounts_in_whole (selection system cells flags group smaller) x) (up_column group c) ∙ wide_up system cells flags group smaller x c is.0 is.1 ∙ ap (λ b. if b then x (up_column smaller c) else pos 0) out
 rows_not system cells flags group smaller asked (CapBelow c) are is out x =
-    cap_comes_to (widened (selection system cells flags group smaller) x) (down_column group c) ∙ wide_down system cells flags group smaller x c is.0 is.1 ∙ ap (λ b. if b then x (down_column smaller c) else pos 0) out
+    cap_comes_to (amounts_in_whole (selection system cells flags group smaller) x) (down_column group c) ∙ wide_down system cells flags group smaller x c is.0 is.1 ∙ ap (λ b. if b then x (down_column smaller c) else pos 0) out
 rows_not system cells flags group smaller asked (Form k) are is out x = unmet_row system cells flags group smaller asked k (pos 1) x are is out
 rows_not system cells flags group smaller asked (Negated k) are is out x = unmet_row system cells flags group smaller asked k (negsuc 0) x are is out
 
@@ -397,8 +397,8 @@ question_part system cells flags group smaller question are =
       target = refl;
       widened_rows = λ x k below. (part_rows system cells flags group smaller question k are below).wide x;
       other_rows = λ x k below out.
-          rows_out (λ (r : LinRow). comes_to (widened s x) r.entries ≡ pos 0) (row_of system cells group) (problems.target_row (problem_of system cells group question)) problems.no_row q all
-          (All-weaker (IsLabel system cells group) (λ label. q label ≡ false → comes_to (widened s x) (row_of system cells group label).entries ≡ pos 0) (λ label is none. rows_not system cells flags group smaller question.cell label are is none x) all (labels_are system cells group)) k out;
+          rows_out (λ (r : LinRow). comes_to (amounts_in_whole s x) r.entries ≡ pos 0) (row_of system cells group) (problems.target_row (problem_of system cells group question)) problems.no_row q all
+          (All-weaker (IsLabel system cells group) (λ label. q label ≡ false → comes_to (amounts_in_whole s x) (row_of system cells group label).entries ≡ pos 0) (λ label is none. rows_not system cells flags group smaller question.cell label are is none x) all (labels_are system cells group)) k out;
       widened_objective = target.wide;
       narrowed_rows = λ x k none below. (part_rows system cells flags group smaller question k are below).narrow x none;
       narrowed_objective = target.narrow;

@@ -7,7 +7,7 @@ use Rattle.sdc_base.specs.declared.cell.Cell.{Cell}
 use Rattle.sdc_base.specs.declared.side.Side.{Side}
 use Rattle.sdc_base.specs.declared.system.System.{System}
 use Rattle.sdc_base.specs.Forms.{coefficient}
-use Rattle.sdc_base.specs.Grounds.{IsGround}
+use Rattle.sdc_base.specs.Patterns.{IsPattern}
 use Rattle.sdc_base.specs.Refutations.{bound_sum, refuting_terms}
 use Rattle.sdc_base.specs.Systems.{Numbers}
 use Rattle.sdc_base.specs.Worlds.{IsWorld, amount_toward}
@@ -36,7 +36,7 @@ no_further system cells flags asked side best multipliers each inside are other 
     let right : other *ℤ bound_sum cells flags (coefficient (refuting_terms system.relations asked side multipliers.den multipliers.by_relation)) ≡ best *ℤ other = ap (λ z. other *ℤ z) are.equal ∙ *ℤ_comm other best in
     omega (arith, ints, most, left, right)
 
-stops_short : (system : System) (cells : List Cell) (flags : List Bool) (question : Question) (best : ℤ) (world : World) (multipliers : Multipliers) → IsGround system cells flags → question.cell < system.cells → best <ℤ question.target → IsWholeWorldAt system cells flags question.cell question.side best world → AreWholeMultipliersAt system cells flags question.cell question.side best multipliers → StopsShort system cells flags question (record { num = best; den = pos 1 }) world multipliers
+stops_short : (system : System) (cells : List Cell) (flags : List Bool) (question : Question) (best : ℤ) (world : World) (multipliers : Multipliers) → IsPattern system cells flags → question.cell < system.cells → best <ℤ question.target → IsWholeWorldAt system cells flags question.cell question.side best world → AreWholeMultipliersAt system cells flags question.cell question.side best multipliers → StopsShort system cells flags question (record { num = best; den = pos 1 }) world multipliers
 stops_short system cells flags question best world multipliers ground inside short lies are =
     let target : multipliers.den *ℤ question.target ≡ question.target = ap (λ z. z *ℤ question.target) are.whole ∙ once question.target in
     let from = question.target_from_zero in
@@ -63,7 +63,7 @@ stops_short system cells flags question best world multipliers ground inside sho
       };
     }
 
-pub flow_is_true : (system : System) (cells : List Cell) (flags : List Bool) (question : Question) (answer : FlowAnswer) → IsGround system cells flags → question.cell < system.cells → IsFlowAnswer system cells flags question.cell question.side question.target answer → IsTrueAnswer system cells flags question (answer_of_flow answer)
+pub flow_is_true : (system : System) (cells : List Cell) (flags : List Bool) (question : Question) (answer : FlowAnswer) → IsPattern system cells flags → question.cell < system.cells → IsFlowAnswer system cells flags question.cell question.side question.target answer → IsTrueAnswer system cells flags question (answer_of_flow answer)
 flow_is_true system cells flags question (flow.Reaches world) ground inside is = record {
   is_world = is.is_world;
   exactly = is.exactly ∙ sym (ap (λ z. z *ℤ question.target) is.whole ∙ once question.target);

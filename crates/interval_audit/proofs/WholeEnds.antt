@@ -13,7 +13,7 @@ use Rattle.interval_audit.specs.declared.question.Question.{Question}
 use Rattle.interval_audit.specs.declared.answer.Answer.{Answer}
 use Rattle.interval_audit.specs.declared.answer.Answer.TheVariants.{Reaches, Stops}
 use Rattle.interval_audit.specs.declared.answer.AskFault.{AskFault}
-use Rattle.interval_audit.specs.Answers.{IsTrueAnswer, IsAnswerOf, IsWhole, asked_move_in}
+use Rattle.interval_audit.specs.Answers.{IsTrueAnswer, IsAnswerOf, IsIntegral, asked_move_in}
 use Rattle.interval_audit.specs.Ends.{IsEndQuestion, IsWholeEnd}
 
 -- how far the asked cell moves, by what is asked of
@@ -24,7 +24,7 @@ move_is cell side question world asks =
 once : (z : ℤ) → pos 1 *ℤ z ≡ z
 once z = omega (arith, ints)
 
-whole_end : (system : System) (cells : List Cell) (flags : List Bool) (cell : ℕ) (side : Side) (question : Question) (answer : Answer) → IsEndQuestion cell side question → IsTrueAnswer system cells flags question answer → IsWhole answer → IsWholeEnd system cells flags cell side answer
+whole_end : (system : System) (cells : List Cell) (flags : List Bool) (cell : ℕ) (side : Side) (question : Question) (answer : Answer) → IsEndQuestion cell side question → IsTrueAnswer system cells flags question answer → IsIntegral answer → IsWholeEnd system cells flags cell side answer
 whole_end system cells flags cell side question (Reaches world) asks right whole = record {
   is_world = right.is_world;
   whole = whole;

@@ -95,16 +95,16 @@ IsWalkAnswer system cells flags question answer =
     × (length (members group system.cells) ≤ most_members) × IsWalkAnswerIn system cells group question answer
 
 -- the answer is in whole units: the denominators of its world and of its multipliers are 1
-abbrev pub IsWhole : Answer → Type 0
-IsWhole (Reaches world) = world.den ≡ pos 1
-IsWhole (Stops best world multipliers) = (world.den ≡ pos 1) × (multipliers.den ≡ pos 1)
+abbrev pub IsIntegral : Answer → Type 0
+IsIntegral (Reaches world) = world.den ≡ pos 1
+IsIntegral (Stops best world multipliers) = (world.den ≡ pos 1) × (multipliers.den ≡ pos 1)
 
 -- The answer is one of the question: where the relations have no signs it is read off the end of the question's walk,
 -- and where they have signs it is in whole units. Not: read off a walk where they have signs.
 pub record IsAnswerIn (system : System) (cells : List Cell) (group : Group) (question : Question)
     (answer : Answer) : Type 0 where
   pub walked : HasNone system.relations → IsWalkAnswerIn system cells group question answer
-  pub whole : (signs : List Bool) → AreSigns system.relations signs → IsWhole answer
+  pub whole : (signs : List Bool) → AreSigns system.relations signs → IsIntegral answer
 
 -- the answer is one of the question in its component, of at most so many cells
 abbrev pub IsAnswerOf : System → List Cell → List Bool → Question → Answer → Type 0

@@ -5,7 +5,7 @@ use Rattle.std.specs.Option.{option_map_or}
 use Rattle.sdc_base.specs.declared.cell.Cell.{Cell}
 use Rattle.sdc_base.specs.declared.system.System.{System}
 use Rattle.sdc_base.specs.Forms.{coefficient}
-use Rattle.sdc_base.specs.Grounds.{IsGround}
+use Rattle.sdc_base.specs.Patterns.{IsPattern}
 use Rattle.sdc_base.specs.HiddenSets.{is_hidden}
 use Rattle.sdc_base.specs.Systems.{Numbers}
 use Rattle.sdc_base.specs.Totals.{sum_of}
@@ -94,7 +94,7 @@ abbrev pub MovePairStops : Type 0
 MovePairStops =
     (system : System) (cells : List Cell) (larger flags : List Bool) (question : Question) (group : Group) (d q : ℤ)
     (moves : ℕ → ℕ → ℤ) (by_relation : Numbers) (multipliers : Multipliers) →
-    IsGround system cells flags → is_hidden flags question.cell ≡ true →
+    IsPattern system cells flags → is_hidden flags question.cell ≡ true →
     ((cell : ℕ) → is_hidden flags cell ≡ true → is_hidden larger cell ≡ true) →
     IsComponentOf system.relations larger question.cell group →
     length (members group system.cells) ≤ most_members →

@@ -1,5 +1,5 @@
 ghost use Rattle.std.specs.Prelude.{◌≡◌, ◌≤◌, ◌<◌, ◌^◌, ◌-◌, ℕ, Bool, List, length, true, IfOk, IfErr};
-ghost use Rattle.sdc_base.specs.Grounds.{IsGround};
+ghost use Rattle.sdc_base.specs.Patterns.{IsPattern};
 ghost use Rattle.sdc_base.specs.HiddenSets.{is_hidden};
 ghost use Rattle.sdc_base.specs.Signs.{AreSigns, HasNone};
 ghost use Rattle.interval_audit.specs.Answers.{IsTrueAnswer, IsAnswerOf, IsWalkAnswer, IsStepOutcome};
@@ -67,7 +67,7 @@ pub fn ask(
     question: Question,
     limit: u64,
 ) -> Result<Answer, AskFault>
-    requires ground { IsGround system.now cells.now hidden.now.flags }
+    requires ground { IsPattern system.now cells.now hidden.now.flags }
     requires hidden { is_hidden hidden.now.flags question.cell ≡ true }
     requires limit { 1 ≤ limit }
     ensures right { IfOk result (λ answer. IsTrueAnswer system.now cells.now hidden.now.flags question answer) }
@@ -96,7 +96,7 @@ pub(crate) fn ask_flow(
     signs: &[bool],
     question: Question,
 ) -> Result<Answer, AskFault>
-    requires ground { IsGround system.now cells.now hidden.now.flags }
+    requires ground { IsPattern system.now cells.now hidden.now.flags }
     requires hidden { is_hidden hidden.now.flags question.cell ≡ true }
     requires signs { AreSigns system.now.relations signs.now }
     ensures right { IfOk result (λ answer. IsTrueAnswer system.now cells.now hidden.now.flags question answer) }
@@ -165,7 +165,7 @@ pub(crate) fn ask_walk<'a>(
     question: Question,
     limit: u64,
 ) -> Result<Answer, AskFault>
-    requires ground { IsGround system.now cells.now hidden.now.flags }
+    requires ground { IsPattern system.now cells.now hidden.now.flags }
     requires hidden { is_hidden hidden.now.flags question.cell ≡ true }
     requires limit { 1 ≤ limit }
     requires no_signs { HasNone system.now.relations }

@@ -1,5 +1,5 @@
 ghost use Rattle.std.specs.Prelude.{◌≡◌, ◌≤◌, Bool, List, length, true, IfOk, IfErr};
-ghost use Rattle.sdc_base.specs.Grounds.{IsGround};
+ghost use Rattle.sdc_base.specs.Patterns.{IsPattern};
 ghost use Rattle.sdc_base.specs.HiddenSets.{is_hidden};
 ghost use Rattle.sdc_base.specs.declared.side.Side.{Side as AnySide};
 ghost use Rattle.sdc_base.specs.declared.side.Side.TheVariants.{Above, Below};
@@ -42,7 +42,7 @@ pub fn interval(
     cell: u32,
     limit: u64,
 ) -> Result<TwoEnds, AskFault>
-    requires ground { IsGround system.now cells.now hidden.now.flags }
+    requires ground { IsPattern system.now cells.now hidden.now.flags }
     requires hidden { is_hidden hidden.now.flags cell ≡ true }
     requires limit { 1 ≤ limit }
     ensures below { IfOk result (λ ends. IsTrueEnd system.now cells.now hidden.now.flags cell Below ends.below) }
@@ -71,7 +71,7 @@ pub fn signed_interval(
     cell: u32,
     limit: u64,
 ) -> Result<TwoEnds, AskFault>
-    requires ground { IsGround system.now cells.now hidden.now.flags }
+    requires ground { IsPattern system.now cells.now hidden.now.flags }
     requires hidden { is_hidden hidden.now.flags cell ≡ true }
     requires limit { 1 ≤ limit }
     ensures below { IfOk result (λ ends. IsTrueEnd system.now cells.now hidden.now.flags cell Below ends.below) }
@@ -100,7 +100,7 @@ fn end_of(
     asked: (u32, Side),
     limit: u64,
 ) -> Result<Answer, AskFault>
-    requires ground { IsGround system.now cells.now hidden.now.flags }
+    requires ground { IsPattern system.now cells.now hidden.now.flags }
     requires hidden { is_hidden hidden.now.flags asked.0 ≡ true }
     requires limit { 1 ≤ limit }
     ensures right { IfOk result (λ answer. IsTrueEnd system.now cells.now hidden.now.flags asked.0 asked.1 answer) }

@@ -1,5 +1,5 @@
 ghost use Rattle.std.specs.Prelude.{◌≡◌, ◌≤◌, Bool, List, true, false, IfOk, IfErr};
-ghost use Rattle.sdc_base.specs.Grounds.{IsGround};
+ghost use Rattle.sdc_base.specs.Patterns.{IsPattern};
 ghost use Rattle.sdc_base.specs.HiddenSets.{is_hidden};
 ghost use Rattle.sdc_base.specs.Signs.{AreSigns, HasNone};
 ghost use Rattle.interval_audit.specs.Answers.{IsTrueAnswer, IsAnswerOf};
@@ -76,7 +76,7 @@ impl<'a> SignedSystem<'a> {
         question: Question,
         limit: u64,
     ) -> Result<Answer, AskFault>
-        requires ground { IsGround self.now cells.now hidden.now.flags }
+        requires ground { IsPattern self.now cells.now hidden.now.flags }
         requires hidden { is_hidden hidden.now.flags question.cell ≡ true }
         requires limit { 1 ≤ limit }
         ensures right { IfOk result (λ answer. IsTrueAnswer self.now cells.now hidden.now.flags question answer) }

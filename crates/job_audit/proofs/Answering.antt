@@ -3,15 +3,15 @@ use Rattle.std.proofs.Common.{◌≡◌, inl, inr, ℕ, List, ℤ, Result, Ok, E
 use Rattle.cert_check.specs.declared.faults.CheckFault.{CheckFault}
 use Rattle.job_inputs.specs.SoundJobs.{AreSound}
 use Rattle.job_inputs.specs.declared.faults.Fault.{Fault}
-use Rattle.job_inputs.specs.declared.settled.SettledJob.{SettledJob}
+use Rattle.job_inputs.specs.declared.settled.ClassifiedJob.{ClassifiedJob}
 use Rattle.job_inputs.specs.declared.stop.InputStop.TheVariants as input
 use Rattle.job_audit.specs.Finding.{IsAuditFileAnswer, ComesFromValues, IsFound, IsShownBy}
 use Rattle.job_audit.specs.ShownValues.{values_read}
 use Rattle.job_audit.specs.declared.audit_file.AuditFile.{AuditFile}
 use Rattle.job_audit.specs.declared.stop.AuditStop.{AuditStop}
 use Rattle.job_audit.specs.declared.stop.AuditStop.TheVariants as stop
-use Rattle.shelved_tables.specs.TablesOnShelf.{ShelvedTables, IsShelvedOf}
-use Rattle.shelved_tables.specs.declared.shelved.ShelvedJob.{ShelvedJob}
+use Rattle.published_tables.specs.TablesOnShelf.{ShelvedTables, IsShelvedOf}
+use Rattle.published_tables.specs.declared.shelved.ShelvedJob.{ShelvedJob}
 
 -- the first bad line of the tables that were read is that of the told tables
 pub refused_for : (meant : Result ShelvedTables Fault) (one : ShelvedTables) (shelved : ShelvedJob) (why : CheckFault) → meant ≡ Ok one → IsShelvedOf one shelved → values_read shelved.job shelved.tables ≡ Err why → IsAuditFileAnswer meant (Err (stop.NotAccepted why))
@@ -19,7 +19,7 @@ refused_for meant one shelved why is own first =
     rw is (inl (record { job = shelved.job; job_is = own.settled; first = subst (λ (tables : List (List ℕ)). values_read shelved.job tables ≡ Err why) own.tables first }))
 
 -- what the numbers of the tables that were read come to, those of the told tables do
-shown_by : (one : ShelvedTables) (shelved : ShelvedJob) (values : List ℤ) (P : SettledJob → List ℤ → Type 0) → IsShelvedOf one shelved → values_read shelved.job shelved.tables ≡ Ok values → P shelved.job values → IsShownBy one P
+shown_by : (one : ShelvedTables) (shelved : ShelvedJob) (values : List ℤ) (P : ClassifiedJob → List ℤ → Type 0) → IsShelvedOf one shelved → values_read shelved.job shelved.tables ≡ Ok values → P shelved.job values → IsShownBy one P
 shown_by one shelved values P own shown holds = record {
   job = shelved.job;
   values = values;

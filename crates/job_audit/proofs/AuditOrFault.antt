@@ -15,10 +15,10 @@ use Rattle.rounding_audit.specs.ReaderFaults.{IsReaderFault, truths_of}
 use Rattle.rounding_audit.specs.declared.reader_fault.ReaderFault.{ReaderFault}
 use Rattle.rounding_audit.specs.declared.reader_fault.ReaderFault.TheVariants as reader
 use Rattle.job_inputs.specs.Bases.{method_base}
-use Rattle.job_inputs.specs.SettledJobs.{SettledInputs, IsSettledOf}
+use Rattle.job_inputs.specs.ClassifiedJobs.{SettledInputs, IsSettledOf}
 use Rattle.job_inputs.specs.declared.described.DescribedJob.{DescribedJob}
-use Rattle.job_inputs.specs.declared.settled.SettledJob.{SettledJob}
-use Rattle.shelved_tables.specs.TablesOnShelf.{ShelvedTables}
+use Rattle.job_inputs.specs.declared.settled.ClassifiedJob.{ClassifiedJob}
+use Rattle.published_tables.specs.TablesOnShelf.{ShelvedTables}
 use Rattle.job_audit.proofs.ReadingAlike.{values_alike}
 use Rattle.job_audit.specs.Finding.{AreNoRounding, AreRefusedFor, HaveBadLine, IsFileFor, IsFileOf, IsShownBy}
 use Rattle.job_audit.specs.ShownValues.{base_of_job, values_read}
@@ -51,7 +51,7 @@ truths_alike (cell ∷ ones) (another ∷ others) same =
     rw (truths, truths_alike ones others tails) refl
 
 -- a rounding has no fault as one
-no_fault : (one other : SettledJob) (values : List ℤ) (file : AuditFile) (why : CheckFault) → truths_of one.cells ≡ truths_of other.cells → base_of_job one ≡ base_of_job other
+no_fault : (one other : ClassifiedJob) (values : List ℤ) (file : AuditFile) (why : CheckFault) → truths_of one.cells ≡ truths_of other.cells → base_of_job one ≡ base_of_job other
     → relations_among one.book.trees one.book.tables ≡ relations_among other.book.trees other.book.tables → IsFileFor one values file → AreNoRounding other values why → ⊥
 no_fault one other values file why truths base sums is are = by are.first are.first_is are.fault
   where

@@ -12,10 +12,10 @@ use Rattle.linked_tables.specs.declared.mark.Mark.{Mark}
 use Rattle.release_writer.specs.LineChoices.{Template, rest_behind, value_there}
 use Rattle.release_writer.specs.ReleaseReading.{ReleaseSoFar, read_place, read_places, read_table, read_tables, rounded_read, shown_numbers}
 use Rattle.cert_check.specs.RoundedRelease.{at_line}
-use Rattle.job_inputs.specs.SettledJobs.{SettledInputs, IsSettledOf}
+use Rattle.job_inputs.specs.ClassifiedJobs.{SettledInputs, IsSettledOf}
 use Rattle.job_inputs.specs.Tables.{names_of}
 use Rattle.job_inputs.specs.declared.described.DescribedJob.{DescribedJob}
-use Rattle.job_inputs.specs.declared.settled.SettledJob.{SettledJob}
+use Rattle.job_inputs.specs.declared.settled.ClassifiedJob.{ClassifiedJob}
 use Rattle.job_audit.specs.ShownValues.{values_read}
 
 -- a book by its parts
@@ -69,7 +69,7 @@ rounded_alike one other names decimals files trees tables =
     first ∙ ap (map_ok shown_numbers) (same_tables other.trees other.tables one.marks other.marks decimals 0 other.tables names files [])
 
 -- so tables show the same numbers, or have one first bad line, for all jobs of the same settled inputs
-pub values_alike : (settled : SettledInputs) (one other : SettledJob) (tables : List (List ℕ)) → IsSettledOf settled one → IsSettledOf settled other → values_read one tables ≡ values_read other tables
+pub values_alike : (settled : SettledInputs) (one other : ClassifiedJob) (tables : List (List ℕ)) → IsSettledOf settled one → IsSettledOf settled other → values_read one tables ≡ values_read other tables
 values_alike settled one other tables is_one is_other =
     let described = is_one.described ∙ sym is_other.described in
     let alike = rounded_alike one.book other.book (map names_of other.described.job.tables) other.described.bound.decimals tables (is_one.book.trees ∙ sym is_other.book.trees) (is_one.book.tables ∙ sym is_other.book.tables) in

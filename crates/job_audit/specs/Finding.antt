@@ -21,12 +21,12 @@ use Rattle.rounding_audit.specs.Readers.{all_hidden}
 use Rattle.rounding_audit.specs.declared.audited.AuditedCell.{AuditedCell}
 use Rattle.rounding_audit.specs.declared.reader_fault.ReaderFault.{ReaderFault}
 use Rattle.job_inputs.specs.Reading.{stopped_for}
-use Rattle.job_inputs.specs.SettledJobs.{IsSettledOf}
+use Rattle.job_inputs.specs.ClassifiedJobs.{IsSettledOf}
 use Rattle.job_inputs.specs.SoundJobs.{AreSound}
 use Rattle.job_inputs.specs.declared.faults.Fault.{Fault}
-use Rattle.job_inputs.specs.declared.settled.SettledJob.{SettledJob}
+use Rattle.job_inputs.specs.declared.settled.ClassifiedJob.{ClassifiedJob}
 use Rattle.job_inputs.specs.declared.stop.InputStop.TheVariants as input
-use Rattle.shelved_tables.specs.TablesOnShelf.{ShelvedTables}
+use Rattle.published_tables.specs.TablesOnShelf.{ShelvedTables}
 use Rattle.job_audit.specs.ShownValues.{base_of_job, values_read}
 use Rattle.job_audit.specs.Stops.{reader_stop}
 use Rattle.job_audit.specs.declared.audit_file.AuditFile.{AuditFile}
@@ -37,7 +37,7 @@ use Rattle.job_audit.specs.declared.stop.AuditStop.TheVariants as stop
 -- audit: each primary cell, ascending, with its two ends and what shows them, as a text; how many primary cells there
 -- are, and how many of them aren't covered on some side. No component of a primary cell has too many cells. Where the
 -- job has one table of one variable, or of two flat ones, all ends are whole, and so are the worlds beside them.
-pub record IsFileFor (job : SettledJob) (values : List ℤ) (file : AuditFile) : Type 0 where
+pub record IsFileFor (job : ClassifiedJob) (values : List ℤ) (file : AuditFile) : Type 0 where
   pub one_each : length values ≡ length job.cells
   pub system : System
   pub audited : List AuditedCell
@@ -52,7 +52,7 @@ pub record IsFileFor (job : SettledJob) (values : List ℤ) (file : AuditFile) :
   pub exposed : file.exposed ≡ exposed_in audited
 
 -- the numbers aren't a rounding, and this is their first fault
-pub record AreNoRounding (job : SettledJob) (values : List ℤ) (why : CheckFault) : Type 0 where
+pub record AreNoRounding (job : ClassifiedJob) (values : List ℤ) (why : CheckFault) : Type 0 where
   pub system : System
   pub system_is : IsSystemOf job.book system
   pub first : ReaderFault
@@ -62,7 +62,7 @@ pub record AreNoRounding (job : SettledJob) (values : List ℤ) (why : CheckFaul
 -- The numbers are a rounding, and the fault is that of the first question about a primary cell that has no answer within
 -- the job's steps, and isn't want of memory. It is that a component has too many cells exactly where that of the
 -- question's cell has. Where the job has one table of one variable, or of two flat ones, no walk stopped short.
-pub record IsStuckAt (job : SettledJob) (values : List ℤ) (why : AskFault) : Type 0 where
+pub record IsStuckAt (job : ClassifiedJob) (values : List ℤ) (why : AskFault) : Type 0 where
   pub system : System
   pub system_is : IsSystemOf job.book system
   pub undecided : IsUndecidedBy system job.cells values (base_of_job job) job.described.job.steps why
@@ -72,7 +72,7 @@ pub record IsStuckAt (job : SettledJob) (values : List ℤ) (why : AskFault) : T
 
 -- the answer for numbers: the file of their audit, their first fault as a rounding, or the fault of the first question
 -- without an answer, want of memory aside
-abbrev pub ComesFromValues : SettledJob → List ℤ → Result AuditFile AuditStop → Type 0
+abbrev pub ComesFromValues : ClassifiedJob → List ℤ → Result AuditFile AuditStop → Type 0
 ComesFromValues job values (Ok file) = IsFileFor job values file
 ComesFromValues job values (Err (stop.Inputs input.Memory)) = Unit {0}
 ComesFromValues job values (Err (stop.Inputs why)) = ⊥
@@ -80,8 +80,8 @@ ComesFromValues job values (Err (stop.NotAccepted why)) = AreNoRounding job valu
 ComesFromValues job values (Err (stop.Undecided why)) = IsStuckAt job values why
 
 -- the tables of a job are the texts of numbers, of which this holds
-pub record IsShownBy (shelved : ShelvedTables) (P : SettledJob → List ℤ → Type 0) : Type 0 where
-  pub job : SettledJob
+pub record IsShownBy (shelved : ShelvedTables) (P : ClassifiedJob → List ℤ → Type 0) : Type 0 where
+  pub job : ClassifiedJob
   pub values : List ℤ
   pub job_is : IsSettledOf shelved.settled job
   pub shown : values_read job shelved.tables ≡ Ok values
@@ -89,7 +89,7 @@ pub record IsShownBy (shelved : ShelvedTables) (P : SettledJob → List ℤ → 
 
 -- this is the first bad line of the tables of a job
 pub record HaveBadLine (shelved : ShelvedTables) (why : CheckFault) : Type 0 where
-  pub job : SettledJob
+  pub job : ClassifiedJob
   pub job_is : IsSettledOf shelved.settled job
   pub first : values_read job shelved.tables ≡ Err why
 

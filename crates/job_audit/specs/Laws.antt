@@ -1,9 +1,9 @@
 -- What holds of the rounded tables of a job that are read for its audit (own).
 use Rattle.std.specs.Prelude.{◌≡◌, ℕ, List}
 use Rattle.cert_check.specs.declared.faults.CheckFault.{CheckFault}
-use Rattle.job_inputs.specs.SettledJobs.{SettledInputs, IsSettledOf}
-use Rattle.job_inputs.specs.declared.settled.SettledJob.{SettledJob}
-use Rattle.shelved_tables.specs.TablesOnShelf.{ShelvedTables}
+use Rattle.job_inputs.specs.ClassifiedJobs.{SettledInputs, IsSettledOf}
+use Rattle.job_inputs.specs.declared.settled.ClassifiedJob.{ClassifiedJob}
+use Rattle.published_tables.specs.TablesOnShelf.{ShelvedTables}
 use Rattle.job_audit.specs.Finding.{AreRefusedFor, IsFileOf}
 use Rattle.job_audit.specs.ShownValues.{values_read}
 use Rattle.job_audit.specs.declared.audit_file.AuditFile.{AuditFile}
@@ -12,7 +12,7 @@ use Rattle.job_audit.specs.declared.audit_file.AuditFile.{AuditFile}
 -- this is what the inputs and the tables give.
 abbrev pub AreReadAlike : Type 0
 AreReadAlike =
-    (settled : SettledInputs) (one other : SettledJob) (tables : List (List ℕ)) → IsSettledOf settled one
+    (settled : SettledInputs) (one other : ClassifiedJob) (tables : List (List ℕ)) → IsSettledOf settled one
     → IsSettledOf settled other
     → values_read one tables ≡ values_read other tables
 

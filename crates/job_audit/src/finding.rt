@@ -1,9 +1,9 @@
 ghost use Rattle.std.specs.Prelude.{◌≡◌, length};
 ghost use Rattle.sdc_base.specs.WhereTold.{WhereTold};
-ghost use Rattle.job_inputs.specs.Reading.{HasCause, HasComeTo};
-ghost use Rattle.job_inputs.specs.SettledJobs.{HasOnlyLookedOn};
+ghost use Rattle.job_inputs.specs.Reading.{HasCause, ReachedFile};
+ghost use Rattle.job_inputs.specs.ClassifiedJobs.{HasOnlyLookedOn};
 ghost use Rattle.job_inputs.specs.declared.purpose.Purpose.TheVariants.{Audit};
-ghost use Rattle.shelved_tables.specs.TablesOnShelf.{shelved_for, ComesFor, IsReadyShelved};
+ghost use Rattle.published_tables.specs.TablesOnShelf.{shelved_for, ComesFor, IsReadyShelved};
 ghost use Rattle.job_audit.specs.Finding.{IsAuditFileAnswer, ComesFromValues, IsFound};
 ghost use Rattle.job_audit.specs.Stops.{reading_of};
 
@@ -12,10 +12,10 @@ use crate::showing::values_in;
 use crate::stop::AuditStop;
 use job_inputs::{Purpose, base_in_units};
 use office_io::Shelf;
+use published_tables::{ShelvedJob, read_shelved};
 use relations::relations_of;
 use rounding_audit::{audit_of, audit_text, exposed_in, size_is_large};
 use sdc_base::Text;
-use shelved_tables::{ShelvedJob, read_shelved};
 use std::alloc::Global;
 
 /// The file of the audit of the rounded tables of a job, to be put under the name `out`: for each primary cell, in
@@ -55,7 +55,7 @@ pub fn find_audit<S: Shelf>(
 
     // Where the shelf fails at a file, the run came to it and nothing before it has a fault.
     ensures came_to { WhereTold (S.state shelf.old).files
-        (λ fs. HasComeTo (ComesFor Audit fs name.now out.now) (reading_of result) fs (S.state shelf.new)) }
+        (λ fs. ReachedFile (ComesFor Audit fs name.now out.now) (reading_of result) fs (S.state shelf.new)) }
 
     // The shelf was only looked at: its files stay, and each file was read to its end or its own limit at most.
     ensures shelf { HasOnlyLookedOn Audit name.now (S.state shelf.old) (S.state shelf.new) }

@@ -1,20 +1,20 @@
 ghost use Rattle.std.specs.Prelude.{◌≡◌, IfOk, length};
 ghost use Rattle.sdc_base.specs.Answers.{Gives};
-ghost use Rattle.cert_check.specs.FirstFault.{fault_of};
-ghost use Rattle.shelved_tables.specs.TablesOnShelf.{IsReadyShelved};
+ghost use Rattle.cert_check.specs.FirstFault.{check_fault_of};
+ghost use Rattle.published_tables.specs.TablesOnShelf.{IsReadyShelved};
 ghost use Rattle.job_audit.specs.ShownValues.{values_read};
 
 use cert_check::CheckFault;
 use job_inputs::table_names;
+use published_tables::ShelvedJob;
 use release_writer::{rounded_numbers_have_texts, rounded_of};
 use sdc_base::Items;
-use shelved_tables::ShelvedJob;
 use std::alloc::Global;
 
 /// The numbers whose texts the tables of a job are, or the first line that the texts of none have.
 pub(crate) fn values_in(alloc: Global, shelved: &ShelvedJob) -> Result<Items<i128>, CheckFault>
     requires { IsReadyShelved shelved.now }
-    ensures exact { Gives fault_of (λ values. values) result (values_read shelved.now.job shelved.now.tables) }
+    ensures exact { Gives check_fault_of (λ values. values) result (values_read shelved.now.job shelved.now.tables) }
     ensures each { IfOk result (λ values. length values ≡ length shelved.now.job.cells) }
 {
     let job = &shelved.job;

@@ -16,14 +16,14 @@ use Rattle.release_writer.specs.Sheets.{HaveNames}
 use Rattle.sdc_base.specs.HiddenSets.{MayHide}
 use Rattle.sdc_base.specs.Trails.{corners_of}
 use Rattle.job_lang.specs.declared.job.TableLine.{TableLine}
-use Rattle.job_inputs.specs.SettledJobs.{IsReadyJob}
+use Rattle.job_inputs.specs.ClassifiedJobs.{IsReadyJob}
 use Rattle.job_inputs.specs.Tables.{names_of}
-use Rattle.job_inputs.specs.declared.settled.SettledJob.{SettledJob}
+use Rattle.job_inputs.specs.declared.settled.ClassifiedJob.{ClassifiedJob}
 use Rattle.job_check.specs.Reading.{IsReadyRelease}
 use Rattle.job_check.specs.declared.reading.ReadRelease.{ReadRelease}
 
 -- there is a cell of the job for each of the system
-each-cell : (job : SettledJob) (system : System) (cells : List Cell) → IsReadyJob job → cells ≡ job.cells → system.cells ≡ length (cells_in job.book) → length cells ≡ system.cells
+each-cell : (job : ClassifiedJob) (system : System) (cells : List Cell) → IsReadyJob job → cells ≡ job.cells → system.cells ≡ length (cells_in job.book) → length cells ≡ system.cells
 each-cell job system cells ready same is = ap length same ∙ ready.settled ∙ ready.one_each ∙ sym is
 
 -- truths are told by the facts alone
@@ -32,7 +32,7 @@ by-facts [] = refl
 by-facts (mark ∷ marks) = ap (λ (truths : List ℤ). mark.facts.truth ∷ truths) (by-facts marks)
 
 -- the truths are those of the marks, whichever are hidden
-same-truths : (job : SettledJob) (book : BookView) (cells : List Cell) → IsReadyJob job → cells ≡ job.cells → IsSameButHidden job.book book → map (λ mark. mark.facts.truth) book.marks ≡ map (λ cell. cell.truth) cells
+same-truths : (job : ClassifiedJob) (book : BookView) (cells : List Cell) → IsReadyJob job → cells ≡ job.cells → IsSameButHidden job.book book → map (λ mark. mark.facts.truth) book.marks ≡ map (λ cell. cell.truth) cells
 same-truths job book cells ready same hidden =
     by-facts book.marks
     ∙ ap (map (λ (facts : CellFacts). facts.truth)) hidden.facts
@@ -68,10 +68,10 @@ as-many : (tables : List (List ℕ)) (lines : List TableLine) → map (λ (place
 as-many tables lines same = sym (length-map (λ (places : List ℕ). length places) tables) ∙ ap length same ∙ length-map (λ (line : TableLine). length line.variables) lines
 
 -- the tables of a job's book are those of its lines
-tables-are : (job : SettledJob) (book : BookView) → IsReadyJob job → IsSameButHidden job.book book → book.tables ≡ job.described.bound.tables
+tables-are : (job : ClassifiedJob) (book : BookView) → IsReadyJob job → IsSameButHidden job.book book → book.tables ≡ job.described.bound.tables
 tables-are job book ready hidden = hidden.tables ∙ ready.book.tables
 
-pub have-names : (job : SettledJob) (book : BookView) (names : List (List (List ℕ))) → IsReadyJob job → IsSameButHidden job.book book → names ≡ map names_of job.described.job.tables → HaveNames names book.tables
+pub have-names : (job : ClassifiedJob) (book : BookView) (names : List (List (List ℕ))) → IsReadyJob job → IsSameButHidden job.book book → names ≡ map names_of job.described.job.tables → HaveNames names book.tables
 have-names job book names ready hidden are =
     let tables : List (List ℕ) = job.described.bound.tables in
     let lines : List TableLine = job.described.job.tables in

@@ -1,7 +1,7 @@
 -- What is needed to judge extra cells beside an accepted certificate.
 use Rattle.std.proofs.Common.{◌≡◌, ℕ, Bool, false, List, [], ◌∷◌, length, All, Option, None, Some, IfSome, refl, ap, subst, ◌∙◌}
 use Rattle.std.proofs.lemmas.List.Elements.{All-nil, All-cons}
-use Rattle.sdc_base.specs.Grounds.{IsGround}
+use Rattle.sdc_base.specs.Patterns.{IsPattern}
 use Rattle.sdc_base.specs.declared.cell.Cell.{Cell}
 use Rattle.sdc_base.specs.declared.method.Method.{Method}
 use Rattle.sdc_base.specs.declared.method.Method.TheVariants as method
@@ -34,7 +34,7 @@ given-worlds system cells flags (asked ∷ rest) [] each = absurd each
 given-worlds system cells flags (asked ∷ rest) (line ∷ lines) each = All-cons (λ (one : WorldLine). IsGivenWorld system cells flags one.world) line lines each.0.is_world (given-worlds system cells flags rest lines each.1)
 
 -- a set of a certificate has a flag for each cell
-pub own-ground : (case : Case) (c : Certificate) (flags : List Bool) → length case.cells.now ≡ case.system.now.cells → flags ≡ own_set case c → IsGround case.system.now case.cells.now flags
+pub own-ground : (case : Case) (c : Certificate) (flags : List Bool) → length case.cells.now ≡ case.system.now.cells → flags ≡ own_set case c → IsPattern case.system.now case.cells.now flags
 own-ground case c flags each same = record { each_cell = each; each_flag = ap length same ∙ set_length case.system.now.cells c.hidden }
 
 -- a job that names a contributors' file doesn't round

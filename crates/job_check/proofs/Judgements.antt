@@ -2,7 +2,7 @@
 use Rattle.std.proofs.Common.{◌≡◌, ◌≢◌, List, ℕ, true, false, Option, None, Some, option_map, Result, Ok, Err, refl, ap, sym, subst, ◌∙◌, Bool}
 use Rattle.sdc_base.specs.Answers.{Fails, Gives}
 use Rattle.sdc_base.specs.Steps.{◌>>=◌, map_fault}
-use Rattle.attackers.specs.ExtraFaults.{extra_fault as first_extra_fault, fault_of as extra_fault_of}
+use Rattle.attackers.specs.ExtraFaults.{extra_fault as first_extra_fault, extra_fault_of}
 use Rattle.attackers.specs.declared.faults.ExtraFault.{ExtraFault}
 use Rattle.attackers.specs.declared.faults.ExtraFault.TheVariants as extra_fault
 use Rattle.certificate.specs.declared.certificate.Certificate.{Certificate}
@@ -11,15 +11,15 @@ use Rattle.office_io.specs.Files.{Files}
 use Rattle.office_io.specs.Shelves.{ShelfState}
 use Rattle.cert_check.specs.Acceptance.{IsAccepted, IsOfCase, IsRoundedRelease}
 use Rattle.cert_check.specs.Cases.{IsCase}
-use Rattle.cert_check.specs.FirstFault.{fault_of, acceptance_fault}
+use Rattle.cert_check.specs.FirstFault.{check_fault_of, acceptance_fault}
 use Rattle.cert_check.specs.Methods.{rounds_cells}
 use Rattle.cert_check.specs.OwnTexts.{own_set, own_texts, release_fault}
 use Rattle.cert_check.specs.declared.case.Case.{Case}
 use Rattle.cert_check.specs.declared.faults.CheckFault.{CheckFault}
 use Rattle.cert_check.specs.declared.faults.CheckFault.TheVariants as fault
 use Rattle.repair.specs.HidingOrder.{protected_case}
-use Rattle.job_inputs.specs.Reading.{HasCause, HasComeTo}
-use Rattle.job_inputs.specs.SettledJobs.{SettledInputs}
+use Rattle.job_inputs.specs.Reading.{HasCause, ReachedFile}
+use Rattle.job_inputs.specs.ClassifiedJobs.{SettledInputs}
 use Rattle.job_inputs.specs.declared.file_ref.FileRef.{FileRef}
 use Rattle.job_inputs.specs.declared.stop.InputStop.{InputStop}
 use Rattle.job_inputs.specs.declared.stop.InputStop.TheVariants as input
@@ -93,13 +93,13 @@ memory-cause e old new h = record { absent = λ f is. absurd cc; too_long = λ f
 pub judged-cause : {X : Type 0} (why : Flaw) (e : InputStop) (old new : ShelfState) → stop_of why ≡ stop.Inputs e → HasCause {X = X} (Err e) old new
 judged-cause why e old new h = memory-cause e old new (memory-alone why e h)
 
-pub judged-comes-to : {X : Type 0} (why : Flaw) (e : InputStop) (comes : FileRef → List ℕ → Type 0) (files : Files) (new : ShelfState) → stop_of why ≡ stop.Inputs e → HasComeTo {X = X} comes (Err e) files new
+pub judged-comes-to : {X : Type 0} (why : Flaw) (e : InputStop) (comes : FileRef → List ℕ → Type 0) (files : Files) (new : ShelfState) → stop_of why ≡ stop.Inputs e → ReachedFile {X = X} comes (Err e) files new
 judged-comes-to why e comes files new h = let memory = memory-alone why e h in λ f is. absurd cc
 
 -- ---- what accepting says of a release
 
 -- a fault that a call names isn't want of memory
-names-no-memory : (why named : CheckFault) → fault_of why ≡ Some named → named ≢ fault.Memory
+names-no-memory : (why named : CheckFault) → check_fault_of why ≡ Some named → named ≢ fault.Memory
 names-no-memory fault.Counts named is memory = absurd cc
 names-no-memory fault.Method named is memory = absurd cc
 names-no-memory (fault.PrimaryShown cell) named is memory = absurd cc
@@ -119,23 +119,23 @@ names-no-memory (fault.Relation number) named is memory = absurd cc
 names-no-memory fault.Memory named is memory = absurd cc
 
 -- and it is one that is named
-names-itself : (why named : CheckFault) → fault_of why ≡ Some named → fault_of named ≡ Some named
-names-itself fault.Counts named is = (let same : fault.Counts ≡ named = cc in subst (λ (one : CheckFault). fault_of one ≡ Some one) same refl)
-names-itself fault.Method named is = (let same : fault.Method ≡ named = cc in subst (λ (one : CheckFault). fault_of one ≡ Some one) same refl)
-names-itself (fault.PrimaryShown cell) named is = (let same : (fault.PrimaryShown cell) ≡ named = cc in subst (λ (one : CheckFault). fault_of one ≡ Some one) same refl)
-names-itself (fault.FixedHidden cell) named is = (let same : (fault.FixedHidden cell) ≡ named = cc in subst (λ (one : CheckFault). fault_of one ≡ Some one) same refl)
-names-itself (fault.Release table line) named is = (let same : (fault.Release table line) ≡ named = cc in subst (λ (one : CheckFault). fault_of one ≡ Some one) same refl)
-names-itself (fault.Step k) named is = (let same : (fault.Step k) ≡ named = cc in subst (λ (one : CheckFault). fault_of one ≡ Some one) same refl)
-names-itself (fault.RepairCell k) named is = (let same : (fault.RepairCell k) ≡ named = cc in subst (λ (one : CheckFault). fault_of one ≡ Some one) same refl)
-names-itself (fault.Repair k why) named is = (let same : (fault.Repair k why) ≡ named = cc in subst (λ (one : CheckFault). fault_of one ≡ Some one) same refl)
-names-itself (fault.Outside cell) named is = (let same : (fault.Outside cell) ≡ named = cc in subst (λ (one : CheckFault). fault_of one ≡ Some one) same refl)
-names-itself (fault.WorldCell k) named is = (let same : (fault.WorldCell k) ≡ named = cc in subst (λ (one : CheckFault). fault_of one ≡ Some one) same refl)
-names-itself (fault.World k why) named is = (let same : (fault.World k why) ≡ named = cc in subst (λ (one : CheckFault). fault_of one ≡ Some one) same refl)
-names-itself (fault.NotReached cell side) named is = (let same : (fault.NotReached cell side) ≡ named = cc in subst (λ (one : CheckFault). fault_of one ≡ Some one) same refl)
-names-itself (fault.NeedCell k) named is = (let same : (fault.NeedCell k) ≡ named = cc in subst (λ (one : CheckFault). fault_of one ≡ Some one) same refl)
-names-itself (fault.Need k why) named is = (let same : (fault.Need k why) ≡ named = cc in subst (λ (one : CheckFault). fault_of one ≡ Some one) same refl)
-names-itself (fault.Rounded cell) named is = (let same : (fault.Rounded cell) ≡ named = cc in subst (λ (one : CheckFault). fault_of one ≡ Some one) same refl)
-names-itself (fault.Relation number) named is = (let same : (fault.Relation number) ≡ named = cc in subst (λ (one : CheckFault). fault_of one ≡ Some one) same refl)
+names-itself : (why named : CheckFault) → check_fault_of why ≡ Some named → check_fault_of named ≡ Some named
+names-itself fault.Counts named is = (let same : fault.Counts ≡ named = cc in subst (λ (one : CheckFault). check_fault_of one ≡ Some one) same refl)
+names-itself fault.Method named is = (let same : fault.Method ≡ named = cc in subst (λ (one : CheckFault). check_fault_of one ≡ Some one) same refl)
+names-itself (fault.PrimaryShown cell) named is = (let same : (fault.PrimaryShown cell) ≡ named = cc in subst (λ (one : CheckFault). check_fault_of one ≡ Some one) same refl)
+names-itself (fault.FixedHidden cell) named is = (let same : (fault.FixedHidden cell) ≡ named = cc in subst (λ (one : CheckFault). check_fault_of one ≡ Some one) same refl)
+names-itself (fault.Release table line) named is = (let same : (fault.Release table line) ≡ named = cc in subst (λ (one : CheckFault). check_fault_of one ≡ Some one) same refl)
+names-itself (fault.Step k) named is = (let same : (fault.Step k) ≡ named = cc in subst (λ (one : CheckFault). check_fault_of one ≡ Some one) same refl)
+names-itself (fault.RepairCell k) named is = (let same : (fault.RepairCell k) ≡ named = cc in subst (λ (one : CheckFault). check_fault_of one ≡ Some one) same refl)
+names-itself (fault.Repair k why) named is = (let same : (fault.Repair k why) ≡ named = cc in subst (λ (one : CheckFault). check_fault_of one ≡ Some one) same refl)
+names-itself (fault.Outside cell) named is = (let same : (fault.Outside cell) ≡ named = cc in subst (λ (one : CheckFault). check_fault_of one ≡ Some one) same refl)
+names-itself (fault.WorldCell k) named is = (let same : (fault.WorldCell k) ≡ named = cc in subst (λ (one : CheckFault). check_fault_of one ≡ Some one) same refl)
+names-itself (fault.World k why) named is = (let same : (fault.World k why) ≡ named = cc in subst (λ (one : CheckFault). check_fault_of one ≡ Some one) same refl)
+names-itself (fault.NotReached cell side) named is = (let same : (fault.NotReached cell side) ≡ named = cc in subst (λ (one : CheckFault). check_fault_of one ≡ Some one) same refl)
+names-itself (fault.NeedCell k) named is = (let same : (fault.NeedCell k) ≡ named = cc in subst (λ (one : CheckFault). check_fault_of one ≡ Some one) same refl)
+names-itself (fault.Need k why) named is = (let same : (fault.Need k why) ≡ named = cc in subst (λ (one : CheckFault). check_fault_of one ≡ Some one) same refl)
+names-itself (fault.Rounded cell) named is = (let same : (fault.Rounded cell) ≡ named = cc in subst (λ (one : CheckFault). check_fault_of one ≡ Some one) same refl)
+names-itself (fault.Relation number) named is = (let same : (fault.Relation number) ≡ named = cc in subst (λ (one : CheckFault). check_fault_of one ≡ Some one) same refl)
 names-itself fault.Memory named is = absurd cc
 
 extra-names-itself : (why named : ExtraFault) → extra_fault_of why ≡ Some named → extra_fault_of named ≡ Some named
@@ -155,7 +155,7 @@ seen-of view (Some f) named is = (f, refl, let same : view f ≡ named = cc in s
 -- a flaw that is named isn't want of memory
 flaw-itself : (why named : Flaw) → flaw_of why ≡ Some named → flaw_of named ≡ Some named
 flaw-itself (flaw.NotAccepted why) named is =
-    let it = seen-of flaw.NotAccepted (fault_of why) named is in
+    let it = seen-of flaw.NotAccepted (check_fault_of why) named is in
     subst (λ (one : Flaw). flaw_of one ≡ Some one) (sym it.2) (ap (option_map flaw.NotAccepted) (names-itself why it.0 it.1))
 flaw-itself (flaw.NotGuarded why) named is =
     let it = seen-of flaw.NotGuarded (extra_fault_of why) named is in
@@ -168,12 +168,12 @@ abbrev pub plain : SettledInputs → Certificate → List (List ℕ) → Release
 plain settled certificate tables = released_with settled certificate None tables
 
 -- it has the first fault of its certificate
-pub plain-fault : (case : Case) (settled : SettledInputs) (certificate : Certificate) (extra : Option Extra) (tables : List (List ℕ)) (why : CheckFault) → extra ≡ None → Fails (fault_of why) (acceptance_fault case tables certificate)
+pub plain-fault : (case : Case) (settled : SettledInputs) (certificate : Certificate) (extra : Option Extra) (tables : List (List ℕ)) (why : CheckFault) → extra ≡ None → Fails (check_fault_of why) (acceptance_fault case tables certificate)
     → IsCaseOf settled case → IsCase case tables → IsJudgementOf (released_with settled certificate extra tables) (Err (flaw.NotAccepted why))
 plain-fault case settled certificate extra tables why none exact is fits =
     subst (λ (o : Option Extra). IsJudgementOf (released_with settled certificate o tables) (Err (flaw.NotAccepted why))) (sym none)
     (λ named seen.
-    let it = seen-of flaw.NotAccepted (fault_of why) named seen in
+    let it = seen-of flaw.NotAccepted (check_fault_of why) named seen in
     subst (IsNotAcceptedWith None (plain settled certificate tables)) (sym it.2) (record {
       case = case;
       is_case = is;
@@ -185,14 +185,14 @@ plain-fault case settled certificate extra tables why none exact is fits =
 -- it is accepted where there is none
 pub plain-accepted : (case : Case) (settled : SettledInputs) (certificate : Certificate) (extra : Option Extra) (tables : List (List ℕ)) (result : Result (Unit {0}) CheckFault) → extra ≡ None → result ≡ Ok tt
     → (result ≡ Ok tt → IsOfCase case certificate) → (result ≡ Ok tt → rounds_cells case.method ≡ false → IsAccepted case tables certificate)
-    → (result ≡ Ok tt → rounds_cells case.method ≡ true → IsRoundedRelease case tables certificate) → Gives fault_of (λ u. u) result (acceptance_fault case tables certificate)
+    → (result ≡ Ok tt → rounds_cells case.method ≡ true → IsRoundedRelease case tables certificate) → Gives check_fault_of (λ u. u) result (acceptance_fault case tables certificate)
     → IsCaseOf settled case → IsCase case tables → IsJudgementOf (released_with settled certificate extra tables) (Ok tt)
 plain-accepted case settled certificate extra tables result none ok of_case suppressed rounded exact is fits =
     subst (λ (o : Option Extra). IsJudgementOf (released_with settled certificate o tables) (Ok tt)) (sym none) (record {
       case = case;
       is_case = is;
       fits = fits;
-      no_fault = subst (λ (r : Result (Unit {0}) CheckFault). Gives fault_of (λ u. u) r (acceptance_fault case tables certificate)) ok exact;
+      no_fault = subst (λ (r : Result (Unit {0}) CheckFault). Gives check_fault_of (λ u. u) r (acceptance_fault case tables certificate)) ok exact;
       of_case = of_case ok;
       suppressed = suppressed ok;
       rounded = rounded ok;
@@ -252,15 +252,15 @@ behind-tables : (case : Case) (soles : List (Option ℕ)) (tables : List (List �
 behind-tables case soles tables c extra first then =
     behind-certificate case soles tables c extra first ∙ ap (λ (m : Result (Unit {0}) CheckFault). map_fault flaw.NotAccepted m >>= λ _. last-step case soles c extra) then
 
-pub certificate-stops : (case : Case) (soles : List (Option ℕ)) (tables : List (List ℕ)) (c : Certificate) (extra : Extra) (why : CheckFault) → Fails (fault_of why) (acceptance_fault case (own_texts case c) c)
+pub certificate-stops : (case : Case) (soles : List (Option ℕ)) (tables : List (List ℕ)) (c : Certificate) (extra : Extra) (why : CheckFault) → Fails (check_fault_of why) (acceptance_fault case (own_texts case c) c)
     → Fails (flaw_of (flaw.NotAccepted why)) (guarded_fault case soles tables c extra)
-certificate-stops case soles tables c extra why h = seen-stops flaw.NotAccepted (fault_of why) (acceptance_fault case (own_texts case c) c) (λ _. two-steps case soles tables c extra) h
+certificate-stops case soles tables c extra why h = seen-stops flaw.NotAccepted (check_fault_of why) (acceptance_fault case (own_texts case c) c) (λ _. two-steps case soles tables c extra) h
 
 pub tables-stop : (case : Case) (soles : List (Option ℕ)) (tables : List (List ℕ)) (c : Certificate) (extra : Extra) (larger : List Bool) (why : CheckFault) → acceptance_fault case (own_texts case c) c ≡ Ok tt → larger ≡ larger_set case c extra
-    → Fails (fault_of why) (release_fault case larger tables) → Fails (flaw_of (flaw.NotAccepted why)) (guarded_fault case soles tables c extra)
+    → Fails (check_fault_of why) (release_fault case larger tables) → Fails (flaw_of (flaw.NotAccepted why)) (guarded_fault case soles tables c extra)
 tables-stop case soles tables c extra larger why first same h =
     subst (λ (m : Result (Unit {0}) Flaw). Fails (flaw_of (flaw.NotAccepted why)) m) (sym (behind-certificate case soles tables c extra first))
-    (seen-stops flaw.NotAccepted (fault_of why) (release_fault case (larger_set case c extra) tables) (λ _. last-step case soles c extra) (subst (λ (flags : List Bool). Fails (fault_of why) (release_fault case flags tables)) same h))
+    (seen-stops flaw.NotAccepted (check_fault_of why) (release_fault case (larger_set case c extra) tables) (λ _. last-step case soles c extra) (subst (λ (flags : List Bool). Fails (check_fault_of why) (release_fault case flags tables)) same h))
 
 pub extra-stops : (case : Case) (soles : List (Option ℕ)) (tables : List (List ℕ)) (c : Certificate) (extra : Extra) (own larger : List Bool) (why : ExtraFault) → acceptance_fault case (own_texts case c) c ≡ Ok tt → own ≡ own_set case c → larger ≡ larger_set case c extra
     → release_fault case larger tables ≡ Ok tt → Fails (extra_fault_of why) (first_extra_fault (protected_case case.system.now case.cells.now) soles own c.worlds extra) → Fails (flaw_of (flaw.NotGuarded why)) (guarded_fault case soles tables c extra)

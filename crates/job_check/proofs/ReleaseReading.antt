@@ -8,14 +8,14 @@ use Rattle.office_io.specs.Files.{Files}
 use Rattle.job_inputs.proofs.Refusing.{fails-on}
 use Rattle.job_inputs.specs.CertificateFile.{certificate_in}
 use Rattle.job_inputs.specs.Looks.{IsFile, InputsComeTo}
-use Rattle.job_inputs.specs.SettledJobs.{SettledInputs, settled_of, IsSettledOf}
+use Rattle.job_inputs.specs.ClassifiedJobs.{SettledInputs, settled_of, IsSettledOf}
 use Rattle.job_inputs.specs.Tables.{tables_of, ComesToTables, TablesComeTo}
 use Rattle.job_inputs.specs.declared.described.DescribedJob.{DescribedJob}
 use Rattle.job_inputs.specs.declared.faults.Fault.{Fault}
 use Rattle.job_inputs.specs.declared.file_ref.FileRef.{FileRef}
 use Rattle.job_inputs.specs.declared.file_ref.FileRef.TheVariants as file
 use Rattle.job_inputs.specs.declared.purpose.Purpose.TheVariants as purpose
-use Rattle.job_inputs.specs.declared.settled.SettledJob.{SettledJob}
+use Rattle.job_inputs.specs.declared.settled.ClassifiedJob.{ClassifiedJob}
 use Rattle.job_check.specs.Contributors.{extra_for, IsContributorsFile}
 use Rattle.job_check.specs.Reading.{IsReleasedOf, ReleaseComesTo}
 use Rattle.job_check.specs.ReleaseFiles.{released_of, released_with}
@@ -55,25 +55,25 @@ released-is files name settled certificate extra tables read signed beside put =
 -- ---- the same, for the job that was read
 
 -- the files come to settled inputs, which are those of this job
-abbrev pub WasSettled : Files → List ℕ → SettledJob → Type 0
+abbrev pub WasSettled : Files → List ℕ → ClassifiedJob → Type 0
 WasSettled files name job = IsOkAnd (settled_of purpose.Release files name) (λ settled. IsSettledOf settled job)
 
-record Inputs (files : Files) (name : List ℕ) (job : SettledJob) : Type 0 where
+record Inputs (files : Files) (name : List ℕ) (job : ClassifiedJob) : Type 0 where
   settled : SettledInputs
   read : settled_of purpose.Release files name ≡ Ok settled
   is : IsSettledOf settled job
 
-inputs-of : (files : Files) (name : List ℕ) (job : SettledJob) → WasSettled files name job → Inputs files name job
+inputs-of : (files : Files) (name : List ℕ) (job : ClassifiedJob) → WasSettled files name job → Inputs files name job
 inputs-of files name job was = let it = ok-and (λ settled. IsSettledOf settled job) (settled_of purpose.Release files name) was in record { settled = it.0; read = it.1; is = it.2 }
 
 -- so does what stops the certificate
-pub no-certificate : (files : Files) (name : List ℕ) (job : SettledJob) (o : Option Fault) → WasSettled files name job → Fails o (certificate_in files job.described.job.certificate) → Fails o (released_of files name)
+pub no-certificate : (files : Files) (name : List ℕ) (job : ClassifiedJob) (o : Option Fault) → WasSettled files name job → Fails o (certificate_in files job.described.job.certificate) → Fails o (released_of files name)
 no-certificate files name job o was h =
     let it = inputs-of files name job was in
     certificate-fails files name it.settled o it.read (subst (λ (d : DescribedJob). Fails o (certificate_in files d.job.certificate)) it.is.described h)
 
 -- what stops the contributors' file
-pub no-extra : (files : Files) (name : List ℕ) (job : SettledJob) (certificate : Certificate) (o : Option Fault) → WasSettled files name job → certificate_in files job.described.job.certificate ≡ Ok certificate
+pub no-extra : (files : Files) (name : List ℕ) (job : ClassifiedJob) (certificate : Certificate) (o : Option Fault) → WasSettled files name job → certificate_in files job.described.job.certificate ≡ Ok certificate
     → Fails o (extra_for files job.described.job.contributors) → Fails o (released_of files name)
 no-extra files name job certificate o was signed h =
     let it = inputs-of files name job was in
@@ -81,7 +81,7 @@ no-extra files name job certificate o was signed h =
     (subst (λ (d : DescribedJob). Fails o (extra_for files d.job.contributors)) it.is.described h)
 
 -- and what stops a table
-pub no-tables : (files : Files) (name : List ℕ) (job : SettledJob) (certificate : Certificate) (extra : Option Extra) (o : Option Fault) → WasSettled files name job → certificate_in files job.described.job.certificate ≡ Ok certificate
+pub no-tables : (files : Files) (name : List ℕ) (job : ClassifiedJob) (certificate : Certificate) (extra : Option Extra) (o : Option Fault) → WasSettled files name job → certificate_in files job.described.job.certificate ≡ Ok certificate
     → extra_for files job.described.job.contributors ≡ Ok extra → Fails o (tables_of files job.described.job) → Fails o (released_of files name)
 no-tables files name job certificate extra o was signed beside h =
     let it = inputs-of files name job was in
@@ -111,7 +111,7 @@ inputs-come files name file.Contributors held h = absurd h
 inputs-come files name (file.Table t) held h = absurd h
 inputs-come files name file.Out held h = absurd h
 
-pub certificate-comes : (files : Files) (name : List ℕ) (job : SettledJob) (f : FileRef) (held : List ℕ) → WasSettled files name job → IsFile file.Certificate job.described.job.certificate f held → ReleaseComesTo files name f held
+pub certificate-comes : (files : Files) (name : List ℕ) (job : ClassifiedJob) (f : FileRef) (held : List ℕ) → WasSettled files name job → IsFile file.Certificate job.described.job.certificate f held → ReleaseComesTo files name f held
 certificate-comes files name job f held was comes =
     let it = inputs-of files name job was in
     rw comes.is_file (it.settled, it.read, comes.is_name ∙ ap (λ (d : DescribedJob). d.job.certificate) it.is.described)
@@ -120,7 +120,7 @@ by-line : (line : Option OutputLine) (f : FileRef) (held : List ℕ) → IsContr
 by-line None f held comes = absurd comes
 by-line (Some line) f held comes = (comes.is_file, record { is_file = refl; is_name = comes.is_name })
 
-pub contributors-come : (files : Files) (name : List ℕ) (job : SettledJob) (certificate : Certificate) (f : FileRef) (held : List ℕ) → WasSettled files name job → certificate_in files job.described.job.certificate ≡ Ok certificate
+pub contributors-come : (files : Files) (name : List ℕ) (job : ClassifiedJob) (certificate : Certificate) (f : FileRef) (held : List ℕ) → WasSettled files name job → certificate_in files job.described.job.certificate ≡ Ok certificate
     → IsContributorsFile job.described.job.contributors f held → ReleaseComesTo files name f held
 contributors-come files name job certificate f held was signed comes =
     let it = inputs-of files name job was in
@@ -128,7 +128,7 @@ contributors-come files name job certificate f held was signed comes =
     let own = by-line job.described.job.contributors f held comes in
     rw own.0 (it.settled, it.read, rw here refl, subst (λ (d : DescribedJob). IsContributorsFile d.job.contributors file.Contributors held) it.is.described own.1)
 
-pub tables-come : (files : Files) (name : List ℕ) (job : SettledJob) (certificate : Certificate) (extra : Option Extra) (f : FileRef) (held : List ℕ) → WasSettled files name job → certificate_in files job.described.job.certificate ≡ Ok certificate
+pub tables-come : (files : Files) (name : List ℕ) (job : ClassifiedJob) (certificate : Certificate) (extra : Option Extra) (f : FileRef) (held : List ℕ) → WasSettled files name job → certificate_in files job.described.job.certificate ≡ Ok certificate
     → extra_for files job.described.job.contributors ≡ Ok extra → ComesToTables files job.described.job f held → ReleaseComesTo files name f held
 tables-come files name job certificate extra f held was signed beside comes =
     let it = inputs-of files name job was in

@@ -5,15 +5,15 @@ use Rattle.cert_check.specs.declared.case.Case.{Case}
 use Rattle.modular_plan.specs.Plans.{trail_of, IsSameButHidden}
 use Rattle.relations.specs.Holding.{IsSystemOf}
 use Rattle.job_inputs.specs.Bases.{method_base}
-use Rattle.job_inputs.specs.SettledJobs.{SettledInputs, IsSettledOf}
+use Rattle.job_inputs.specs.ClassifiedJobs.{SettledInputs, IsSettledOf}
 use Rattle.job_inputs.specs.Tables.{names_of}
-use Rattle.job_inputs.specs.declared.settled.SettledJob.{SettledJob}
+use Rattle.job_inputs.specs.declared.settled.ClassifiedJob.{ClassifiedJob}
 
 -- The case of settled inputs: their tables with the truths of their cells, whichever cells are marked as hidden, the
 -- system of the relations between these, the cells, and the trail, the base, the names and the decimals that the job
 -- makes.
 pub record IsCaseOf (settled : SettledInputs) (case : Case) : Type 0 where
-  pub job : SettledJob
+  pub job : ClassifiedJob
   pub job_is : IsSettledOf settled job
   pub book : IsSameButHidden job.book case.book.now
   pub system : IsSystemOf job.book case.system.now

@@ -5,12 +5,12 @@ use Rattle.sdc_base.specs.Steps.{◌>>=◌, map_fault}
 use Rattle.sdc_base.specs.declared.rows.Row.{Row}
 use Rattle.attackers.specs.Alone.{AreSoles}
 use Rattle.attackers.specs.ExtraAcceptance.{IsGuarding}
-use Rattle.attackers.specs.ExtraFaults.{extra_fault, fault_of as extra_fault_of}
+use Rattle.attackers.specs.ExtraFaults.{extra_fault, extra_fault_of}
 use Rattle.attackers.specs.Extras.{hide_cells}
 use Rattle.attackers.specs.KnownCells.{Guards, IsAttack}
 use Rattle.attackers.specs.declared.attack.Attack.{Attack}
 use Rattle.cert_check.specs.Acceptance.{IsAccepted, IsOfCase}
-use Rattle.cert_check.specs.FirstFault.{fault_of, acceptance_fault}
+use Rattle.cert_check.specs.FirstFault.{check_fault_of, acceptance_fault}
 use Rattle.cert_check.specs.OwnTexts.{own_set, own_texts, release_fault}
 use Rattle.cert_check.specs.declared.case.Case.{Case}
 use Rattle.certificate.specs.declared.certificate.Certificate.{Certificate}
@@ -38,7 +38,7 @@ guarded_fault case soles tables c extra =
 
 -- what is wrong with a release; want of memory names nothing
 abbrev pub flaw_of : Flaw → Option Flaw
-flaw_of (flaw.NotAccepted why) = option_map flaw.NotAccepted (fault_of why)
+flaw_of (flaw.NotAccepted why) = option_map flaw.NotAccepted (check_fault_of why)
 flaw_of (flaw.NotGuarded why) = option_map flaw.NotGuarded (extra_fault_of why)
 
 -- for each cell of a case the place of its one record, where it has exactly one

@@ -5,7 +5,7 @@ use Rattle.office_io.specs.Files.{Files}
 use Rattle.job_inputs.specs.CertificateFile.{certificate_in}
 use Rattle.job_inputs.specs.Looks.{InputsComeTo}
 use Rattle.job_inputs.specs.Reading.{stopped_for}
-use Rattle.job_inputs.specs.SettledJobs.{SettledInputs, settled_of, IsReadyJob, IsSettledOf}
+use Rattle.job_inputs.specs.ClassifiedJobs.{SettledInputs, settled_of, IsReadyJob, IsSettledOf}
 use Rattle.job_inputs.specs.Tables.{TablesComeTo}
 use Rattle.job_inputs.specs.declared.faults.Fault.{Fault}
 use Rattle.job_inputs.specs.declared.file_ref.FileRef.{FileRef}

@@ -5,7 +5,7 @@ use Rattle.certificate.specs.declared.certificate.Certificate.{Certificate}
 use Rattle.certificate.specs.declared.extra.Extra.{Extra}
 use Rattle.office_io.specs.Files.{Files}
 use Rattle.job_inputs.specs.CertificateFile.{certificate_in}
-use Rattle.job_inputs.specs.SettledJobs.{SettledInputs, settled_of}
+use Rattle.job_inputs.specs.ClassifiedJobs.{SettledInputs, settled_of}
 use Rattle.job_inputs.specs.Tables.{tables_of}
 use Rattle.job_inputs.specs.declared.faults.Fault.{Fault}
 use Rattle.job_inputs.specs.declared.purpose.Purpose.TheVariants as purpose

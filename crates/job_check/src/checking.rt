@@ -1,7 +1,7 @@
 ghost use Rattle.std.specs.Prelude.{◌≡◌, Err, IfOk};
 ghost use Rattle.sdc_base.specs.WhereTold.{WhereTold};
-ghost use Rattle.job_inputs.specs.Reading.{HasCause, HasComeTo};
-ghost use Rattle.job_inputs.specs.SettledJobs.{HasOnlyLookedOn};
+ghost use Rattle.job_inputs.specs.Reading.{HasCause, ReachedFile};
+ghost use Rattle.job_inputs.specs.ClassifiedJobs.{HasOnlyLookedOn};
 ghost use Rattle.job_inputs.specs.declared.purpose.Purpose.TheVariants.{Release};
 ghost use Rattle.job_inputs.specs.declared.stop.InputStop.{InputStop as AnyStop};
 ghost use Rattle.job_check.specs.Accepted.{IsReadReleaseAnswer, IsAcceptedRead};
@@ -44,7 +44,7 @@ pub fn check_release<S: Shelf>(alloc: Global, shelf: &mut S, name: &Text) -> Res
 
     // Where the shelf failed at a file, it is one to which the check came with no fault before it.
     ensures came_to { WhereTold (S.state shelf.old).files (λ fs. (e : AnyStop) → result ≡ Err (CheckStop.Inputs e)
-        → HasComeTo {X = Unit {0}} (ReleaseComesTo fs name.now) (Err e) fs (S.state shelf.new)) }
+        → ReachedFile {X = Unit {0}} (ReleaseComesTo fs name.now) (Err e) fs (S.state shelf.new)) }
 
     // The shelf was only looked at: its files stay, and each file was read to its end or its own limit at most.
     ensures shelf { HasOnlyLookedOn Release name.now (S.state shelf.old) (S.state shelf.new) }
@@ -71,7 +71,7 @@ pub fn accepted_release<S: Shelf>(
 
     // Where the shelf failed at a file, it is one to which the check came with no fault before it.
     ensures came_to { WhereTold (S.state shelf.old).files (λ fs. (e : AnyStop) → result ≡ Err (CheckStop.Inputs e)
-        → HasComeTo {X = Unit {0}} (ReleaseComesTo fs name.now) (Err e) fs (S.state shelf.new)) }
+        → ReachedFile {X = Unit {0}} (ReleaseComesTo fs name.now) (Err e) fs (S.state shelf.new)) }
 
     // The shelf was only looked at: its files stay, and each file was read to its end or its own limit at most.
     ensures shelf { HasOnlyLookedOn Release name.now (S.state shelf.old) (S.state shelf.new) }

@@ -2,7 +2,7 @@ ghost use Rattle.std.specs.Prelude.{◌≡◌, ◌<◌, ◌^◌, false, length, 
 ghost use Rattle.attackers.specs.Alone.{TellFrequencies};
 ghost use Rattle.cert_check.specs.Cases.{IsCase};
 ghost use Rattle.cert_check.specs.Methods.{rounds_cells};
-ghost use Rattle.job_inputs.specs.SettledJobs.{SettledInputs as AnyInputs};
+ghost use Rattle.job_inputs.specs.ClassifiedJobs.{SettledInputs as AnyInputs};
 ghost use Rattle.job_check.specs.Accepted.{IsSameRelease};
 ghost use Rattle.job_check.specs.Answers.{IsJudgementOf};
 ghost use Rattle.job_check.specs.Cases.{IsCaseOf};

@@ -3,13 +3,13 @@ ghost use Rattle.job_check.specs.Accepted.{IsReadOf};
 ghost use Rattle.job_check.specs.Reading.{AreReleased, ReleaseComesTo, IsReadyRelease};
 ghost use Rattle.job_check.specs.ReleaseFiles.{released_of};
 ghost use Rattle.job_inputs.specs.ReadFiles.{output_limit};
-ghost use Rattle.job_inputs.specs.Reading.{HasLookedAt};
-ghost use Rattle.job_inputs.specs.SettledJobs.{HasOnlyLookedOn};
+ghost use Rattle.job_inputs.specs.Reading.{ReadsFiles};
+ghost use Rattle.job_inputs.specs.ClassifiedJobs.{HasOnlyLookedOn};
 
 use crate::contributors::read_extra_cells;
 use certificate::{Certificate, Extra};
 use job_inputs::{
-    InputStop, Purpose, SettledJob, read_certificate_file, read_settled, read_tables,
+    ClassifiedJob, InputStop, Purpose, read_certificate_file, read_settled, read_tables,
 };
 use office_io::Shelf;
 use sdc_base::{Items, Text};
@@ -19,7 +19,7 @@ use std::alloc::Global;
 /// that stand under its names.
 #[derive(Drop)]
 pub struct ReadRelease {
-    pub job: SettledJob,
+    pub job: ClassifiedJob,
     pub certificate: Certificate,
     pub extra: Option<Extra>,
     pub tables: Items<Text>,
@@ -32,7 +32,7 @@ pub(crate) fn read_release<S: Shelf>(
     shelf: &mut S,
     name: &Text,
 ) -> Result<ReadRelease, InputStop>
-    ensures looked { HasLookedAt (λ fs answer. AreReleased answer (released_of fs name.now))
+    ensures looked { ReadsFiles (λ fs answer. AreReleased answer (released_of fs name.now))
         (λ fs. ReleaseComesTo fs name.now) IsReadyRelease output_limit result (S.state shelf.old) (S.state shelf.new) }
     // Past the inputs only where these have no fault.
     ensures shelf { HasOnlyLookedOn Purpose.Release name.now (S.state shelf.old) (S.state shelf.new) }

@@ -5,7 +5,7 @@ use Rattle.std.proofs.lemmas.Bool.Decides.{nat_tests}
 use Rattle.sdc_base.specs.Cells.{cells_of}
 use Rattle.sdc_base.specs.Records.{Name}
 use Rattle.sdc_base.specs.Trees.{Tree}
-use Rattle.linked_tables.specs.Tables.{most_cells, has_unknown, has_twice, or_later, variables_fault, cells_fault, first_table_fault, unless_fault, fault_of, book_of}
+use Rattle.linked_tables.specs.Tables.{most_cells, has_unknown, has_twice, or_later, variables_fault, cells_fault, first_table_fault, unless_fault, book_fault_of, book_of}
 use Rattle.linked_tables.specs.declared.book_fault.BookFault.{BookFault}
 use Rattle.linked_tables.specs.declared.book_fault.BookFault.TheVariants as book
 use Rattle.sdc_base.specs.Answers.{Fails}
@@ -69,7 +69,7 @@ of-cells one h = rw h.1 tt
 
 -- so a book that isn't made has too many cells, or wants memory
 pub is-for-cells : OnlyCellsAreTooMany → (described : DescribedJob) (trees : List Tree) (tables : List (List ℕ)) (one : BookFault) → IsSoundJob described → length trees ≡ length described.bound.spanning → tables ≡ described.bound.tables
-    → Fails (fault_of one) (book_of trees tables) → IsForCells one
+    → Fails (book_fault_of one) (book_of trees tables) → IsForCells one
 is-for-cells law described trees tables (book.NoSuchVariable t) sound many is h = of-cells (book.NoSuchVariable t) (law described trees (book.NoSuchVariable t) sound many (ap (book_of trees) (sym is) ∙ h))
 is-for-cells law described trees tables (book.TwiceInTable t) sound many is h = of-cells (book.TwiceInTable t) (law described trees (book.TwiceInTable t) sound many (ap (book_of trees) (sym is) ∙ h))
 is-for-cells law described trees tables (book.TooManyCells t) sound many is h = tt

@@ -8,10 +8,10 @@ use Rattle.office_io.proofs.Shelves.{only-read-on}
 use Rattle.office_io.specs.Files.{Files}
 use Rattle.office_io.specs.Shelves.{ShelfState, HasBegun, HasOnlyRead}
 use Rattle.job_inputs.specs.ReadFiles.{limit, output_limit}
-use Rattle.job_inputs.specs.Reading.{stop_of, stopped_for, HasCause, HasComeTo, HasOnlyLooked, IsReadFrom}
+use Rattle.job_inputs.specs.Reading.{stop_of, stopped_for, HasCause, ReachedFile, HasOnlyLooked, IsReadFrom}
 use Rattle.plain_text.specs.Stops.{why_of}
 use Rattle.job_inputs.specs.Refusals.{IsForContents}
-use Rattle.job_inputs.specs.SettledJobs.{HasOnlyLookedOn, SettledInputs, settled_of}
+use Rattle.job_inputs.specs.ClassifiedJobs.{HasOnlyLookedOn, SettledInputs, settled_of}
 use Rattle.job_inputs.specs.declared.purpose.Purpose.{Purpose}
 use Rattle.job_inputs.specs.declared.file_ref.FileRef.{FileRef}
 use Rattle.job_inputs.specs.declared.faults.Fault.{Fault}
@@ -136,10 +136,10 @@ stop-fails refusal.Memory meant h = tt
 
 -- a file that was come to is come to on the way of the whole
 pub come-on : {X Y : Type 0} (e : InputStop) (part whole : FileRef → List ℕ → Type 0) (files : Files) (new : ShelfState) → ((f : FileRef) (held : List ℕ) → part f held → whole f held)
-    → HasComeTo {X = X} part (Err e) files new → HasComeTo {X = Y} whole (Err e) files new
+    → ReachedFile {X = X} part (Err e) files new → ReachedFile {X = Y} whole (Err e) files new
 come-on e part whole files new wider come = λ f is. let came = come f (err-as e _ is) in (came.0, wider f came.0 came.1, came.2)
 
-pub contents-come : {Y : Type 0} (r : Stop Fault) (whole : FileRef → List ℕ → Type 0) (files : Files) (new : ShelfState) → HasComeTo {X = Y} whole (Err (stop_of r)) files new
+pub contents-come : {Y : Type 0} (r : Stop Fault) (whole : FileRef → List ℕ → Type 0) (files : Files) (new : ShelfState) → ReachedFile {X = Y} whole (Err (stop_of r)) files new
 contents-come (refusal.Fault g) whole files new = λ f is. absurd cc
 contents-come refusal.Memory whole files new = λ f is. absurd cc
 

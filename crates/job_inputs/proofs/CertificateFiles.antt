@@ -4,7 +4,7 @@ use Rattle.sdc_base.specs.Answers.{Fails}
 use Rattle.sdc_base.specs.Steps.{map_fault}
 use Rattle.office_io.specs.Files.{Files}
 use Rattle.certificate.specs.Certificates.{certificate_of}
-use Rattle.certificate.specs.Faults.{fault_of}
+use Rattle.certificate.specs.Faults.{cert_fault_of}
 use Rattle.certificate.specs.declared.certificate.Certificate.{Certificate}
 use Rattle.certificate.specs.declared.faults.CertError.{CertError}
 use Rattle.certificate.specs.declared.faults.CertError.TheVariants as error
@@ -17,7 +17,7 @@ use Rattle.job_inputs.specs.Refusals.{IsForContents}
 use Rattle.job_inputs.specs.declared.file_ref.FileRef.TheVariants as file
 use Rattle.job_inputs.specs.declared.faults.Fault.{Fault}
 
-pub certificate_refuses : {A : Type 0} (e : CertError) (read : Result A (ℕ × CertWhy)) → Fails (fault_of e) read → Fails (why_of (certificate_refusal e)) (map_fault certificate_fault read)
+pub certificate_refuses : {A : Type 0} (e : CertError) (read : Result A (ℕ × CertWhy)) → Fails (cert_fault_of e) read → Fails (why_of (certificate_refusal e)) (map_fault certificate_fault read)
 certificate_refuses (error.At line why) read h = rw h refl
 certificate_refuses error.Memory read h = tt
 

@@ -2,25 +2,25 @@
 use Rattle.std.proofs.Common.{◌≡◌, ℕ, Option, None, Some, Result, Ok, Err, refl, subst}
 use Rattle.sdc_base.specs.Answers.{Fails}
 use Rattle.sdc_base.specs.Steps.{◌>>=◌, map_fault}
-use Rattle.code_trees.specs.Faults.{fault_of as tree_fault_of}
+use Rattle.code_trees.specs.Faults.{tree_fault_of}
 use Rattle.code_trees.specs.declared.tree_fault.TreeFault.{TreeFault}
 use Rattle.code_trees.specs.declared.tree_fault.TreeFault.TheVariants as tree
-use Rattle.job_lang.specs.Faults.{fault_of as job_fault_of}
+use Rattle.job_lang.specs.Faults.{job_fault_of}
 use Rattle.job_lang.specs.declared.faults.JobError.{JobError}
 use Rattle.job_lang.specs.declared.faults.JobError.TheVariants as job_error
 use Rattle.job_lang.specs.declared.faults.JobWhy.{JobWhy}
-use Rattle.microdata.specs.Faults.{fault_of as row_fault_of}
+use Rattle.microdata.specs.Faults.{row_fault_of}
 use Rattle.microdata.specs.declared.faults.RowError.{RowError}
 use Rattle.microdata.specs.declared.faults.RowError.TheVariants as row_error
 use Rattle.microdata.specs.declared.faults.RowWhy.{RowWhy}
-use Rattle.rda_meta.specs.Faults.{fault_of as meta_fault_of}
+use Rattle.rda_meta.specs.Faults.{meta_fault_of}
 use Rattle.rda_meta.specs.declared.faults.MetaError.{MetaError}
 use Rattle.rda_meta.specs.declared.faults.MetaError.TheVariants as meta_error
 use Rattle.rda_meta.specs.declared.faults.MetaWhy.{MetaWhy}
-use Rattle.linked_tables.specs.Tables.{fault_of as book_fault_of}
+use Rattle.linked_tables.specs.Tables.{book_fault_of}
 use Rattle.linked_tables.specs.declared.book_fault.BookFault.{BookFault}
 use Rattle.linked_tables.specs.declared.book_fault.BookFault.TheVariants as book
-use Rattle.apriori.specs.Faults.{LineOf, fault_of as prior_fault_of}
+use Rattle.apriori.specs.Faults.{LineOf, prior_fault_of}
 use Rattle.apriori.specs.declared.faults.PriorError.{PriorError}
 use Rattle.apriori.specs.declared.faults.PriorError.TheVariants as prior_error
 use Rattle.apriori.specs.declared.faults.PriorWhy.{PriorWhy}

@@ -10,7 +10,7 @@ use Rattle.office_io.specs.Files.{Files}
 use Rattle.job_inputs.proofs.Refusing.{fails-on}
 use Rattle.job_inputs.specs.Cells.{figures, cells_fault, prior_fault}
 use Rattle.job_inputs.specs.Inputs.{inputs_of}
-use Rattle.job_inputs.specs.SettledJobs.{settled_of, overwrites_job}
+use Rattle.job_inputs.specs.ClassifiedJobs.{settled_of, overwrites_job}
 use Rattle.job_inputs.specs.PriorStatements.{priors_of}
 use Rattle.job_inputs.specs.declared.faults.Fault.{Fault}
 use Rattle.job_inputs.specs.declared.faults.Fault.TheVariants as fault

@@ -17,7 +17,7 @@ use Rattle.job_inputs.proofs.Refusing.{fails-on}
 use Rattle.job_inputs.specs.ReadFiles.{bytes_of_file}
 use Rattle.job_inputs.specs.declared.file_ref.FileRef.TheVariants as file
 use Rattle.job_inputs.specs.PriorStatements.{basis_in, prior_line, with_file, with_files}
-use Rattle.job_inputs.specs.declared.counted.CountedJob.{CountedJob}
+use Rattle.job_inputs.specs.declared.counted.TabulatedJob.{TabulatedJob}
 use Rattle.job_inputs.specs.declared.described.DescribedJob.{DescribedJob}
 use Rattle.job_inputs.specs.declared.inputs.Inputs.{Inputs}
 use Rattle.job_inputs.specs.declared.faults.Fault.{Fault}
@@ -60,7 +60,7 @@ files-stop files inputs described t tables stated (Some f) is before stops withi
     files-err files inputs more (t + 1) tables f whole (one-stops files inputs described t stated f is before stops)
 
 -- what the code's book says of a file is what the inputs say of it
-pub apply-same : (inputs : Inputs) (counted : CountedJob) (t : ℕ) (line : PriorLine) (bytes : List ℕ) (priors : List Prior) → IsCountedOf inputs counted
+pub apply-same : (inputs : Inputs) (counted : TabulatedJob) (t : ℕ) (line : PriorLine) (bytes : List ℕ) (priors : List Prior) → IsCountedOf inputs counted
     → file_says (basis_of counted.book) t line.separator counted.described.bound.decimals priors bytes ≡ file_says (basis_in inputs) t line.separator inputs.described.bound.decimals priors bytes
 apply-same inputs counted t line bytes priors is =
     ap (λ (d : DescribedJob). file_says (basis_of counted.book) t line.separator d.bound.decimals priors bytes) is.described

@@ -16,7 +16,7 @@ pub mod Refusals
 pub mod Reading
 pub mod TabulatedBooks
 pub mod CountedRecords
-pub mod SettledJobs
+pub mod ClassifiedJobs
 pub mod Tables
 pub mod Laws
 pub mod CertificateFile

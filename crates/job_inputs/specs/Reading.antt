@@ -39,8 +39,8 @@ pub record HasCause {X : Type 0} (result : Result X InputStop) (old new : ShelfS
   pub tree : (f : FileRef) → result ≢ Err (stop.Refused (fault.Tree f tree.Memory))
 
 -- where the shelf fails at a file, it is one that reading came to by its name, and was the last one looked for
-abbrev pub HasComeTo : {X : Type 0} → (FileRef → List ℕ → Type 0) → Result X InputStop → Files → ShelfState → Type 0
-HasComeTo comes result files new =
+abbrev pub ReachedFile : {X : Type 0} → (FileRef → List ℕ → Type 0) → Result X InputStop → Files → ShelfState → Type 0
+ReachedFile comes result files new =
     (f : FileRef) → IsErrOf result (stop.ReadFault f)
     → (held : List ℕ) × comes f held × (new.last ≡ held_name files held)
 
@@ -57,11 +57,11 @@ pub record HasOnlyLooked (most : ℕ) (old new : ShelfState) : Type 0 where
 -- The answer to a look at files of a shelf, each of at most so many bytes: as far as they are told, it is what they
 -- give, and reading came to a file at which the shelf fails. The shelf was only looked at, each refusal has its cause,
 -- and what was read is sound.
-pub record HasLookedAt {X : Type 0} (gives : Files → Result X InputStop → Type 0)
+pub record ReadsFiles {X : Type 0} (gives : Files → Result X InputStop → Type 0)
     (comes : Files → FileRef → List ℕ → Type 0) (is_sound : X → Type 0) (most : ℕ) (result : Result X InputStop)
     (old new : ShelfState) : Type 0 where
   pub told : WhereTold old.files (λ fs. gives fs result)
-  pub came_to : WhereTold old.files (λ fs. HasComeTo (comes fs) result fs new)
+  pub came_to : WhereTold old.files (λ fs. ReachedFile (comes fs) result fs new)
   pub shelf : HasOnlyLooked most old new
   pub cause : HasCause result old new
   pub sound : IfOk result is_sound
@@ -70,7 +70,7 @@ pub record HasLookedAt {X : Type 0} (gives : Files → Result X InputStop → Ty
 abbrev pub IsReadFrom : {X Y : Type 0} → (X → Y) → (Files → Result Y Fault) → (Files → FileRef → List ℕ → Type 0)
     → (X → Type 0) → ℕ → Result X InputStop → ShelfState → ShelfState → Type 0
 IsReadFrom view meant comes is_sound most result old new =
-    HasLookedAt (λ fs answer. Gives stopped_for view answer (meant fs)) comes is_sound most result old new
+    ReadsFiles (λ fs answer. Gives stopped_for view answer (meant fs)) comes is_sound most result old new
 
 -- the same of a value that is what the files mean
 abbrev pub IsValueReadFrom : {X : Type 0} → (Files → Result X Fault) → (Files → FileRef → List ℕ → Type 0)

@@ -17,7 +17,7 @@ use std::alloc::Global;
 
 /// A job with its book, whose cells have their records, with these records, and with how many were skipped.
 #[derive(Drop)]
-pub(crate) struct CountedJob {
+pub(crate) struct TabulatedJob {
     pub described: DescribedJob,
     pub book: Book,
     pub rows: Items<Row>,
@@ -27,7 +27,7 @@ pub(crate) struct CountedJob {
 /// The inputs of a job with the records in the cells of its tables.
 ///
 /// It is refused with the first table up to which there are too many cells.
-pub(crate) fn count_records(alloc: Global, inputs: Inputs) -> Result<CountedJob, Stop<Fault>>
+pub(crate) fn count_records(alloc: Global, inputs: Inputs) -> Result<TabulatedJob, Stop<Fault>>
     requires { AreSound inputs }
     ensures { IsReadAs (λ counted. (counted.book.trees, counted.book.tables))
         (map_fault cells_fault (book_of inputs.records.trees inputs.described.bound.tables))
@@ -41,7 +41,7 @@ pub(crate) fn count_records(alloc: Global, inputs: Inputs) -> Result<CountedJob,
     } = records;
     let book = linked_book(alloc, &described, trees)?;
     let book = book_with_records(book, &described, rows.as_slice());
-    Ok(CountedJob {
+    Ok(TabulatedJob {
         described,
         book,
         rows,

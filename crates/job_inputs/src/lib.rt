@@ -37,6 +37,6 @@ pub use inputs::Inputs;
 pub use laws::only_cells_are_too_many;
 pub use outputs::is_contributors_file;
 pub use purpose::Purpose;
-pub use settled::{SettledJob, read_settled};
+pub use settled::{ClassifiedJob, read_settled};
 pub use stop::InputStop;
 pub use tables::{header_for, read_tables, table_names};

@@ -2,8 +2,8 @@ ghost use Rattle.std.specs.Prelude.{◌≡◌};
 ghost use Rattle.std.specs.List.{list_any};
 ghost use Rattle.std.specs.Str.{bytes_eq};
 ghost use Rattle.sdc_base.specs.Steps.{refuse};
-ghost use Rattle.job_inputs.specs.SettledJobs.{overwrites_job};
-ghost use Rattle.job_inputs.specs.SettledJobs as spec;
+ghost use Rattle.job_inputs.specs.ClassifiedJobs.{overwrites_job};
+ghost use Rattle.job_inputs.specs.ClassifiedJobs as spec;
 
 use crate::faults::Fault;
 use job_lang::{Job, OutputLine};

@@ -6,14 +6,14 @@ ghost use Rattle.job_inputs.specs.CountedRecords.{IsCountedOf, IsReadyCount};
 ghost use Rattle.job_inputs.specs.Looks.{InputsComeTo};
 ghost use Rattle.plain_text.specs.Stops.{why_of};
 ghost use Rattle.job_inputs.specs.Refusals.{IsForContents};
-ghost use Rattle.job_inputs.specs.SettledJobs.{settled_of, IsReadyJob, IsSettledOf, AreSettled, SettledInputs, AreReadyCells};
-ghost use Rattle.job_inputs.specs.SettledJobs as spec;
+ghost use Rattle.job_inputs.specs.ClassifiedJobs.{settled_of, IsReadyJob, IsSettledOf, AreSettled, SettledInputs, AreReadyCells};
+ghost use Rattle.job_inputs.specs.ClassifiedJobs as spec;
 ghost use Rattle.job_inputs.specs.SoundJobs.{AreSound};
 ghost use Rattle.job_inputs.specs.declared.inputs.Inputs.{Inputs as AnyInputs};
 ghost use Rattle.job_inputs.specs.ReadFiles.{limit};
-ghost use Rattle.job_inputs.specs.Reading.{HasLookedAt};
+ghost use Rattle.job_inputs.specs.Reading.{ReadsFiles};
 
-use crate::counted::{CountedJob, count_records};
+use crate::counted::{TabulatedJob, count_records};
 use crate::described::DescribedJob;
 use crate::faults::Fault;
 use crate::inputs::read_inputs;
@@ -32,7 +32,7 @@ use std::alloc::Global;
 /// A job with its metadata, the book of its tables with the records in the cells, what each cell is to its protection,
 /// the records, how many there are and how many were skipped.
 #[derive(Drop)]
-pub struct SettledJob {
+pub struct ClassifiedJob {
     pub described: DescribedJob,
     pub book: Book,
     pub cells: Items<Cell>,
@@ -56,8 +56,8 @@ pub fn read_settled<S: Shelf>(
     shelf: &mut S,
     name: &Text,
     purpose: Purpose,
-) -> Result<SettledJob, InputStop>
-    ensures looked { HasLookedAt (λ fs answer. AreSettled answer (settled_of purpose fs name.now))
+) -> Result<ClassifiedJob, InputStop>
+    ensures looked { ReadsFiles (λ fs answer. AreSettled answer (settled_of purpose fs name.now))
         (λ fs. InputsComeTo purpose fs name.now) IsReadyJob limit result (S.state shelf.old) (S.state shelf.new) }
     // Of a shelf that tells nothing too.
     ensures settled { IfOk result (λ job. (settled : SettledInputs) × IsSettledOf settled job × AreSound settled.inputs) }
@@ -68,7 +68,7 @@ pub fn read_settled<S: Shelf>(
     let cells = settled_cells(alloc, &counted, priors.as_slice())?;
     check_outputs(name, &counted.described.job)?;
     let records = counted.rows.as_slice().len() as u64;
-    Ok(SettledJob {
+    Ok(ClassifiedJob {
         described: counted.described,
         book: counted.book,
         cells,
@@ -82,7 +82,7 @@ pub fn read_settled<S: Shelf>(
 #[tactic(auto, using(crate::proofs::Refusing::prior_is_for_contents))]
 fn settled_cells(
     alloc: Global,
-    counted: &CountedJob,
+    counted: &TabulatedJob,
     priors: &[Prior],
 ) -> Result<Items<Cell>, Stop<Fault>>
     requires ready { IsReadyCount counted.now }

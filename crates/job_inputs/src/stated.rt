@@ -3,14 +3,14 @@ ghost use Rattle.sdc_base.specs.Answers.{Gives};
 ghost use Rattle.apriori.specs.Priors.{ArePriors};
 ghost use Rattle.job_inputs.specs.CountedRecords.{HasStatedFile, IsCountedOf, IsReadyCount, StatesFiles, CanState, PriorsComeTo};
 ghost use Rattle.job_inputs.specs.ReadFiles.{limit};
-ghost use Rattle.job_inputs.specs.Reading.{HasLookedAt};
+ghost use Rattle.job_inputs.specs.Reading.{ReadsFiles};
 ghost use Rattle.plain_text.specs.Stops.{why_of};
 ghost use Rattle.job_inputs.specs.Refusals.{IsForContents};
 ghost use Rattle.job_inputs.specs.PriorStatements.{with_file};
 ghost use Rattle.job_inputs.specs.PriorStatements as spec;
 ghost use Rattle.job_inputs.specs.declared.inputs.Inputs.{Inputs as AnyInputs};
 
-use crate::counted::CountedJob;
+use crate::counted::TabulatedJob;
 use crate::faults::Fault;
 use crate::file_ref::FileRef;
 use crate::loading::load;
@@ -29,10 +29,10 @@ use std::alloc::Global;
 pub(crate) fn read_priors<S: Shelf>(
     alloc: Global,
     shelf: &mut S,
-    counted: &CountedJob,
+    counted: &TabulatedJob,
 ) -> Result<Items<Prior>, InputStop>
     requires { IsReadyCount counted.now }
-    ensures { HasLookedAt (StatesFiles counted.now) (PriorsComeTo counted.now) (ArePriors counted.now.book.marks) limit
+    ensures { ReadsFiles (StatesFiles counted.now) (PriorsComeTo counted.now) (ArePriors counted.now.book.marks) limit
         result (S.state shelf.old) (S.state shelf.new) }
 {
     let mut priors = blank_priors(alloc, counted.book.cells())?;
@@ -48,7 +48,7 @@ pub(crate) fn read_priors<S: Shelf>(
 fn add_file<S: Shelf>(
     alloc: Global,
     shelf: &mut S,
-    counted: &CountedJob,
+    counted: &TabulatedJob,
     t: u32,
     priors: &mut Vec<Prior>,
 ) -> Result<(), InputStop>
@@ -80,7 +80,7 @@ fn prior_line(lines: &[PriorLine], t: u32) -> Option<&PriorLine>
 #[tactic(auto, using(crate::proofs::Refusing::prior_is_for_contents))]
 fn state(
     alloc: Global,
-    counted: &CountedJob,
+    counted: &TabulatedJob,
     t: u32,
     line: &PriorLine,
     priors: &mut Vec<Prior>,

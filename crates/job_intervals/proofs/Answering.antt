@@ -5,10 +5,10 @@ use Rattle.job_inputs.specs.SoundJobs.{AreSound}
 use Rattle.job_inputs.specs.declared.faults.Fault.{Fault}
 use Rattle.job_inputs.specs.declared.stop.InputStop.TheVariants as input
 use Rattle.job_intervals.specs.Finding.{IsIntervalFileAnswer, ComesFromSet, IsFound}
-use Rattle.shelved_tables.specs.TablesOnShelf.{ShelvedTables, IsShelvedOf}
+use Rattle.published_tables.specs.TablesOnShelf.{ShelvedTables, IsShelvedOf}
 use Rattle.job_intervals.specs.ShownTables.{flags_in}
 use Rattle.job_intervals.specs.declared.interval_file.IntervalFile.{IntervalFile}
-use Rattle.shelved_tables.specs.declared.shelved.ShelvedJob.{ShelvedJob}
+use Rattle.published_tables.specs.declared.shelved.ShelvedJob.{ShelvedJob}
 use Rattle.job_intervals.specs.declared.stop.IntervalStop.{IntervalStop}
 use Rattle.job_intervals.specs.declared.stop.IntervalStop.TheVariants as stop
 

@@ -20,11 +20,11 @@ use Rattle.cell_intervals.specs.declared.interval.UpperEnd.{UpperEnd}
 use Rattle.cell_intervals.specs.declared.interval.UpperEnd.TheVariants.{At, Open}
 use Rattle.cell_intervals.specs.declared.ratio.Ratio.{Ratio}
 use Rattle.cert_check.specs.declared.faults.CheckFault.{CheckFault}
-use Rattle.job_inputs.specs.SettledJobs.{SettledInputs, IsSettledOf}
-use Rattle.job_inputs.specs.declared.settled.SettledJob.{SettledJob}
+use Rattle.job_inputs.specs.ClassifiedJobs.{SettledInputs, IsSettledOf}
+use Rattle.job_inputs.specs.declared.settled.ClassifiedJob.{ClassifiedJob}
 use Rattle.job_intervals.proofs.ReadingAlike.{tables_are_read_alike}
 use Rattle.job_intervals.specs.Finding.{IsFileOf}
-use Rattle.shelved_tables.specs.TablesOnShelf.{ShelvedTables}
+use Rattle.published_tables.specs.TablesOnShelf.{ShelvedTables}
 use Rattle.job_intervals.specs.ShownTables.{flags_in}
 use Rattle.job_intervals.specs.declared.interval_file.IntervalFile.{IntervalFile}
 
@@ -137,7 +137,7 @@ same_file : (one other : IntervalFile) → one.cells ≡ other.cells → one.byt
 same_file one other cells bytes = let same : one ≡ (record { cells = other.cells; bytes = other.bytes }) = rw (← cells, ← bytes) refl in same
 
 -- the systems and the cells of two jobs of the same settled inputs
-jobs_alike : (settled : SettledInputs) (one other : SettledJob) (first second : System) → IsSettledOf settled one → IsSettledOf settled other → IsSystemOf one.book first → IsSystemOf other.book second → AreAlike second first other.cells one.cells
+jobs_alike : (settled : SettledInputs) (one other : ClassifiedJob) (first second : System) → IsSettledOf settled one → IsSettledOf settled other → IsSystemOf one.book first → IsSystemOf other.book second → AreAlike second first other.cells one.cells
 jobs_alike settled one other first second is_one is_other is_first is_second =
     let trees : other.book.trees ≡ one.book.trees = is_other.book.trees ∙ sym is_one.book.trees in
     let tables : other.book.tables ≡ one.book.tables = is_other.book.tables ∙ sym is_one.book.tables in

@@ -18,12 +18,12 @@ use Rattle.worlds.specs.ProtectFaults.{fixed_hidden}
 use Rattle.cert_check.specs.RoundedRelease.{at_line}
 use Rattle.job_inputs.proofs.Facts.{facts-in}
 use Rattle.job_inputs.specs.Cells.{cells, truth_in}
-use Rattle.job_inputs.specs.SettledJobs.{SettledInputs, IsSettledOf}
+use Rattle.job_inputs.specs.ClassifiedJobs.{SettledInputs, IsSettledOf}
 use Rattle.job_inputs.specs.Tables.{names_of}
 use Rattle.job_inputs.specs.TabulatedBooks.{IsBookOf}
 use Rattle.job_inputs.specs.declared.described.DescribedJob.{DescribedJob}
 use Rattle.job_inputs.specs.declared.inputs.Inputs.{Inputs}
-use Rattle.job_inputs.specs.declared.settled.SettledJob.{SettledJob}
+use Rattle.job_inputs.specs.declared.settled.ClassifiedJob.{ClassifiedJob}
 use Rattle.job_intervals.specs.ShownTables.{flags_in, lines_read}
 
 -- a book by its parts
@@ -107,16 +107,16 @@ same_fixed flags number (cell ∷ ones) (another ∷ others) same =
     let kinds : cell.kind ≡ another.kind = ap (λ (one : SettledCell). one.kind) heads in
     rw (kinds, same_fixed flags (number + 1) ones others tails) refl
 
-same_flags : (one other : SettledJob) (tables : List (List ℕ)) → lines_read one tables ≡ lines_read other tables → ((flags : List Bool) → fixed_hidden flags 0 one.cells ≡ fixed_hidden flags 0 other.cells) → flags_in one tables ≡ flags_in other tables
+same_flags : (one other : ClassifiedJob) (tables : List (List ℕ)) → lines_read one tables ≡ lines_read other tables → ((flags : List Bool) → fixed_hidden flags 0 one.cells ≡ fixed_hidden flags 0 other.cells) → flags_in one tables ≡ flags_in other tables
 unfolding flags_in
 same_flags one other tables lines fixed = rw lines (bind_same (lines_read other tables) _ _ (λ flags. rw (fixed flags) refl))
 
-same_lines : (one other : SettledJob) (tables : List (List ℕ)) → one.described ≡ other.described → hidden_read one.book (map names_of other.described.job.tables) other.described.bound.decimals tables ≡ hidden_read other.book (map names_of other.described.job.tables) other.described.bound.decimals tables
+same_lines : (one other : ClassifiedJob) (tables : List (List ℕ)) → one.described ≡ other.described → hidden_read one.book (map names_of other.described.job.tables) other.described.bound.decimals tables ≡ hidden_read other.book (map names_of other.described.job.tables) other.described.bound.decimals tables
     → lines_read one tables ≡ lines_read other tables
 same_lines one other tables described alike = ap (λ (d : DescribedJob). map_fault at_line (hidden_read one.book (map names_of d.job.tables) d.bound.decimals tables)) described ∙ ap (map_fault at_line) alike
 
 -- so tables show one hidden set, or have one first fault, for all jobs of the same settled inputs
-pub tables_are_read_alike : (settled : SettledInputs) (one other : SettledJob) (tables : List (List ℕ)) → IsSettledOf settled one → IsSettledOf settled other → flags_in one tables ≡ flags_in other tables
+pub tables_are_read_alike : (settled : SettledInputs) (one other : ClassifiedJob) (tables : List (List ℕ)) → IsSettledOf settled one → IsSettledOf settled other → flags_in one tables ≡ flags_in other tables
 tables_are_read_alike settled one other tables is_one is_other =
     let described = is_one.described ∙ sym is_other.described in
     let alike = hidden_alike one.book other.book (map names_of other.described.job.tables) other.described.bound.decimals tables (is_one.book.trees ∙ sym is_other.book.trees) (is_one.book.tables ∙ sym is_other.book.tables) (same_truths settled.inputs one.book other.book is_one.book is_other.book) in

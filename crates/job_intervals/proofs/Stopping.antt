@@ -13,18 +13,18 @@ use Rattle.cell_intervals.specs.IntervalFaults.{IsFaultOf}
 use Rattle.linked_tables.specs.BookCells.{IsBook}
 use Rattle.relations.specs.Holding.{IsSystemOf}
 use Rattle.relations.proofs.SignedTables.{one_or_two_way_has_signs}
-use Rattle.cert_check.specs.FirstFault.{fault_of}
+use Rattle.cert_check.specs.FirstFault.{check_fault_of}
 use Rattle.cert_check.specs.declared.faults.CheckFault.{CheckFault}
 use Rattle.cert_check.specs.declared.faults.CheckFault.TheVariants as check
-use Rattle.job_inputs.specs.Reading.{HasCause, HasComeTo}
+use Rattle.job_inputs.specs.Reading.{HasCause, ReachedFile}
 use Rattle.job_inputs.specs.SoundJobs.{AreSound}
 use Rattle.job_inputs.specs.declared.faults.Fault.{Fault}
 use Rattle.job_inputs.specs.declared.file_ref.FileRef.{FileRef}
-use Rattle.job_inputs.specs.declared.settled.SettledJob.{SettledJob}
+use Rattle.job_inputs.specs.declared.settled.ClassifiedJob.{ClassifiedJob}
 use Rattle.job_inputs.specs.declared.stop.InputStop.{InputStop}
 use Rattle.job_inputs.specs.declared.stop.InputStop.TheVariants as input
 use Rattle.job_intervals.specs.Finding.{IsIntervalFileAnswer, ComesFromSet, IsFound}
-use Rattle.shelved_tables.specs.TablesOnShelf.{ShelvedTables}
+use Rattle.published_tables.specs.TablesOnShelf.{ShelvedTables}
 use Rattle.job_intervals.specs.Stops.{memory_stop, table_stop, question_stop, reading_of}
 use Rattle.job_intervals.specs.declared.interval_file.IntervalFile.{IntervalFile}
 use Rattle.job_intervals.specs.declared.stop.IntervalStop.{IntervalStop}
@@ -37,20 +37,20 @@ pub memory_cause : {X : Type 0} (old new : ShelfState) → HasCause {X = X} (Err
 memory_cause old new = record { absent = λ f is. absurd cc; too_long = λ f is. absurd cc; read_fault = λ f is. absurd cc; tree = λ f is. absurd cc }
 
 -- and came at no file
-pub memory_comes : {X : Type 0} (comes : FileRef → List ℕ → Type 0) (files : Files) (new : ShelfState) → HasComeTo {X = X} comes (Err input.Memory) files new
+pub memory_comes : {X : Type 0} (comes : FileRef → List ℕ → Type 0) (files : Files) (new : ShelfState) → ReachedFile {X = X} comes (Err input.Memory) files new
 memory_comes comes files new = λ f is. absurd cc
 
 -- nor does what was read to its end
 pub read_cause : (old new : ShelfState) → HasCause {X = Unit {0}} (Ok tt) old new
 read_cause old new = record { absent = λ f is. absurd cc; too_long = λ f is. absurd cc; read_fault = λ f is. absurd cc; tree = λ f is. absurd cc }
 
-pub read_comes : (comes : FileRef → List ℕ → Type 0) (files : Files) (new : ShelfState) → HasComeTo {X = Unit {0}} comes (Ok tt) files new
+pub read_comes : (comes : FileRef → List ℕ → Type 0) (files : Files) (new : ShelfState) → ReachedFile {X = Unit {0}} comes (Ok tt) files new
 read_comes comes files new = λ f is. absurd cc
 
 -- ---- faults of the tables
 
 -- a fault of the tables is want of memory, or a stop for that fault
-table_is : (e : CheckFault) → (table_stop e ≡ memory_stop) ⊎ ((table_stop e ≡ stop.NotAccepted e) × (fault_of e ≡ Some e))
+table_is : (e : CheckFault) → (table_stop e ≡ memory_stop) ⊎ ((table_stop e ≡ stop.NotAccepted e) × (check_fault_of e ≡ Some e))
 table_is check.Counts = inr (refl, refl)
 table_is check.Method = inr (refl, refl)
 table_is (check.PrimaryShown cell) = inr (refl, refl)
@@ -70,7 +70,7 @@ table_is (check.Relation number) = inr (refl, refl)
 table_is check.Memory = inl refl
 
 -- so it stops the run for the first fault of the tables
-pub table_stops : {A : Type 0} (meant : Result A CheckFault) (shelved : Result ShelvedTables Fault) (e : CheckFault) → Fails (fault_of e) meant
+pub table_stops : {A : Type 0} (meant : Result A CheckFault) (shelved : Result ShelvedTables Fault) (e : CheckFault) → Fails (check_fault_of e) meant
     → ((why : CheckFault) → meant ≡ Err why → IsIntervalFileAnswer shelved (Err (stop.NotAccepted why))) → IsIntervalFileAnswer shelved (Err (table_stop e))
 table_stops {A} meant shelved e fails make = elim (table_is e) [
   | inl memory ↦ rw memory tt
@@ -78,7 +78,7 @@ table_stops {A} meant shelved e fails make = elim (table_is e) [
 ]
 
 -- and is found so over any shelf
-pub table_found : {A : Type 0} (meant : Result A CheckFault) (e : CheckFault) → Fails (fault_of e) meant
+pub table_found : {A : Type 0} (meant : Result A CheckFault) (e : CheckFault) → Fails (check_fault_of e) meant
     → ((why : CheckFault) → meant ≡ Err why → (shelved : ShelvedTables) × AreSound shelved.settled.inputs × IsIntervalFileAnswer (Ok shelved) (Err (stop.NotAccepted why))) → IsFound (Err (table_stop e))
 table_found {A} meant e fails make = elim (table_is e) [
   | inl memory ↦ rw memory tt
@@ -93,7 +93,7 @@ table_cause e old new = elim (table_is e) [
 ]
 
 -- and came at no file
-pub table_comes_to : (e : CheckFault) (comes : FileRef → List ℕ → Type 0) (files : Files) (new : ShelfState) → HasComeTo comes (reading_of (Err (table_stop e))) files new
+pub table_comes_to : (e : CheckFault) (comes : FileRef → List ℕ → Type 0) (files : Files) (new : ShelfState) → ReachedFile comes (reading_of (Err (table_stop e))) files new
 table_comes_to e comes files new = elim (table_is e) [
   | inl memory ↦ rw memory (memory_comes comes files new)
   | inr own ↦ rw (own.0) (read_comes comes files new)
@@ -102,7 +102,7 @@ table_comes_to e comes files new = elim (table_is e) [
 -- ---- questions without an answer
 
 -- a question without an answer stops the run
-pub question_stops : (job : SettledJob) (system : System) (flags : List Bool) (e : AskFault) → IsBook job.book → IsSystemOf job.book system → IsFaultOf system job.cells flags job.described.job.steps e → SizeIsLarge → ((signs : List Bool) → AreSigns system.relations signs → HasNoWalk e) → ComesFromSet job flags (Err (question_stop e))
+pub question_stops : (job : ClassifiedJob) (system : System) (flags : List Bool) (e : AskFault) → IsBook job.book → IsSystemOf job.book system → IsFaultOf system job.cells flags job.described.job.steps e → SizeIsLarge → ((signs : List Bool) → AreSigns system.relations signs → HasNoWalk e) → ComesFromSet job flags (Err (question_stop e))
 question_stops job system flags ask.Memory is_book is fault size signed = tt
 question_stops job system flags (ask.Work walk) is_book is fault size signed = record {
   system = system;
@@ -130,7 +130,7 @@ question_stops job system flags (ask.Size question hidden) is_book is fault size
 }
 
 -- what stops the finding for a hidden set needs no cause of the shelf
-pub set_cause : (job : SettledJob) (flags : List Bool) (r : Result IntervalFile IntervalStop) (old new : ShelfState) → ComesFromSet job flags r → HasCause (reading_of r) old new
+pub set_cause : (job : ClassifiedJob) (flags : List Bool) (r : Result IntervalFile IntervalStop) (old new : ShelfState) → ComesFromSet job flags r → HasCause (reading_of r) old new
 set_cause job flags (Ok file) old new comes = read_cause old new
 set_cause job flags (Err (stop.Inputs (input.Refused f))) old new comes = absurd comes
 set_cause job flags (Err (stop.Inputs (input.ReadFault f))) old new comes = absurd comes
@@ -139,7 +139,7 @@ set_cause job flags (Err (stop.NotAccepted e)) old new comes = absurd comes
 set_cause job flags (Err (stop.Undecided e)) old new comes = read_cause old new
 
 -- and came at no file
-pub set_comes_to : (job : SettledJob) (flags : List Bool) (r : Result IntervalFile IntervalStop) (to : FileRef → List ℕ → Type 0) (files : Files) (new : ShelfState) → ComesFromSet job flags r → HasComeTo to (reading_of r) files new
+pub set_comes_to : (job : ClassifiedJob) (flags : List Bool) (r : Result IntervalFile IntervalStop) (to : FileRef → List ℕ → Type 0) (files : Files) (new : ShelfState) → ComesFromSet job flags r → ReachedFile to (reading_of r) files new
 set_comes_to job flags (Ok file) to files new comes = read_comes to files new
 set_comes_to job flags (Err (stop.Inputs (input.Refused f))) to files new comes = absurd comes
 set_comes_to job flags (Err (stop.Inputs (input.ReadFault f))) to files new comes = absurd comes

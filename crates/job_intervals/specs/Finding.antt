@@ -16,12 +16,12 @@ use Rattle.cell_intervals.specs.Laws.{IsSize}
 use Rattle.cell_intervals.specs.declared.interval.CellInterval.{CellInterval}
 use Rattle.cert_check.specs.declared.faults.CheckFault.{CheckFault}
 use Rattle.job_inputs.specs.Reading.{stopped_for}
-use Rattle.job_inputs.specs.SettledJobs.{IsSettledOf}
+use Rattle.job_inputs.specs.ClassifiedJobs.{IsSettledOf}
 use Rattle.job_inputs.specs.SoundJobs.{AreSound}
 use Rattle.job_inputs.specs.declared.faults.Fault.{Fault}
-use Rattle.job_inputs.specs.declared.settled.SettledJob.{SettledJob}
+use Rattle.job_inputs.specs.declared.settled.ClassifiedJob.{ClassifiedJob}
 use Rattle.job_inputs.specs.declared.stop.InputStop.TheVariants as input
-use Rattle.shelved_tables.specs.TablesOnShelf.{ShelvedTables}
+use Rattle.published_tables.specs.TablesOnShelf.{ShelvedTables}
 use Rattle.job_intervals.specs.ShownTables.{flags_in}
 use Rattle.job_intervals.specs.declared.interval_file.IntervalFile.{IntervalFile}
 use Rattle.job_intervals.specs.declared.stop.IntervalStop.{IntervalStop}
@@ -31,7 +31,7 @@ use Rattle.job_intervals.specs.declared.stop.IntervalStop.TheVariants as stop
 -- the least and the greatest value that a complete table gives it, as a text, and their number. No component has too
 -- many hidden cells. Where the job has one table of one variable, or of two flat ones, all ends are whole, and complete
 -- tables in whole units attain them.
-pub record IsFileFor (job : SettledJob) (flags : List Bool) (file : IntervalFile) : Type 0 where
+pub record IsFileFor (job : ClassifiedJob) (flags : List Bool) (file : IntervalFile) : Type 0 where
   pub one_each : length flags ≡ length job.cells
   pub system : System
   pub intervals : List CellInterval
@@ -45,7 +45,7 @@ pub record IsFileFor (job : SettledJob) (flags : List Bool) (file : IntervalFile
 -- The fault is that of the first question about a hidden cell that has no answer within the job's steps, and isn't want
 -- of memory. It is that a component has too many hidden cells exactly where that of the question's cell has. Where the
 -- job has one table of one variable, or of two flat ones, no walk stopped short.
-pub record IsStuckAt (job : SettledJob) (flags : List Bool) (why : AskFault) : Type 0 where
+pub record IsStuckAt (job : ClassifiedJob) (flags : List Bool) (why : AskFault) : Type 0 where
   pub system : System
   pub system_is : IsSystemOf job.book system
   pub not_memory : why ≢ ask.Memory
@@ -56,7 +56,7 @@ pub record IsStuckAt (job : SettledJob) (flags : List Bool) (why : AskFault) : T
 
 -- the answer for a hidden set: the file of its intervals, or the fault of the first question without an answer, want of
 -- memory aside
-abbrev pub ComesFromSet : SettledJob → List Bool → Result IntervalFile IntervalStop → Type 0
+abbrev pub ComesFromSet : ClassifiedJob → List Bool → Result IntervalFile IntervalStop → Type 0
 ComesFromSet job flags (Ok file) = IsFileFor job flags file
 ComesFromSet job flags (Err (stop.Inputs input.Memory)) = Unit {0}
 ComesFromSet job flags (Err (stop.Inputs why)) = ⊥
@@ -65,7 +65,7 @@ ComesFromSet job flags (Err (stop.Undecided why)) = IsStuckAt job flags why
 
 -- the tables of a job are the texts of a hidden set without fixed cells, and the file is that of its intervals
 pub record IsFileOf (shelved : ShelvedTables) (file : IntervalFile) : Type 0 where
-  pub job : SettledJob
+  pub job : ClassifiedJob
   pub flags : List Bool
   pub job_is : IsSettledOf shelved.settled job
   pub shown : flags_in job shelved.tables ≡ Ok flags
@@ -73,13 +73,13 @@ pub record IsFileOf (shelved : ShelvedTables) (file : IntervalFile) : Type 0 whe
 
 -- this is the first fault of the tables of a job
 pub record AreRefusedFor (shelved : ShelvedTables) (why : CheckFault) : Type 0 where
-  pub job : SettledJob
+  pub job : ClassifiedJob
   pub job_is : IsSettledOf shelved.settled job
   pub first : flags_in job shelved.tables ≡ Err why
 
 -- the tables of a job are the texts of a hidden set without fixed cells, and this is why its intervals aren't found
 pub record IsUndecidedFor (shelved : ShelvedTables) (why : AskFault) : Type 0 where
-  pub job : SettledJob
+  pub job : ClassifiedJob
   pub flags : List Bool
   pub job_is : IsSettledOf shelved.settled job
   pub shown : flags_in job shelved.tables ≡ Ok flags

@@ -1,9 +1,9 @@
 -- What holds of the tables of a job that are read for its intervals (own).
 use Rattle.std.specs.Prelude.{◌≡◌, ℕ, List}
-use Rattle.job_inputs.specs.SettledJobs.{SettledInputs, IsSettledOf}
-use Rattle.job_inputs.specs.declared.settled.SettledJob.{SettledJob}
+use Rattle.job_inputs.specs.ClassifiedJobs.{SettledInputs, IsSettledOf}
+use Rattle.job_inputs.specs.declared.settled.ClassifiedJob.{ClassifiedJob}
 use Rattle.job_intervals.specs.Finding.{IsFileOf}
-use Rattle.shelved_tables.specs.TablesOnShelf.{ShelvedTables}
+use Rattle.published_tables.specs.TablesOnShelf.{ShelvedTables}
 use Rattle.job_intervals.specs.ShownTables.{flags_in}
 use Rattle.job_intervals.specs.declared.interval_file.IntervalFile.{IntervalFile}
 
@@ -11,7 +11,7 @@ use Rattle.job_intervals.specs.declared.interval_file.IntervalFile.{IntervalFile
 -- is what the inputs and the tables give.
 abbrev pub AreReadAlike : Type 0
 AreReadAlike =
-    (settled : SettledInputs) (one other : SettledJob) (tables : List (List ℕ)) → IsSettledOf settled one
+    (settled : SettledInputs) (one other : ClassifiedJob) (tables : List (List ℕ)) → IsSettledOf settled one
     → IsSettledOf settled other
     → flags_in one tables ≡ flags_in other tables
 

@@ -1,9 +1,9 @@
 ghost use Rattle.std.specs.Prelude.{◌≡◌, length};
 ghost use Rattle.sdc_base.specs.WhereTold.{WhereTold};
-ghost use Rattle.job_inputs.specs.Reading.{HasCause, HasComeTo};
-ghost use Rattle.job_inputs.specs.SettledJobs.{HasOnlyLookedOn};
+ghost use Rattle.job_inputs.specs.Reading.{HasCause, ReachedFile};
+ghost use Rattle.job_inputs.specs.ClassifiedJobs.{HasOnlyLookedOn};
 ghost use Rattle.job_intervals.specs.Finding.{IsIntervalFileAnswer, ComesFromSet, IsFound};
-ghost use Rattle.shelved_tables.specs.TablesOnShelf.{shelved_of, IntervalsComeTo, IsReadyShelved};
+ghost use Rattle.published_tables.specs.TablesOnShelf.{shelved_of, IntervalsComeTo, IsReadyShelved};
 ghost use Rattle.job_intervals.specs.Stops.{reading_of};
 
 use crate::interval_file::IntervalFile;
@@ -12,9 +12,9 @@ use crate::stop::IntervalStop;
 use cell_intervals::{interval_text, intervals_of, size_is_large};
 use job_inputs::Purpose;
 use office_io::Shelf;
+use published_tables::{ShelvedJob, read_shelved};
 use relations::relations_of;
 use sdc_base::{Hidden, Text};
-use shelved_tables::{ShelvedJob, read_shelved};
 use std::alloc::Global;
 
 /// The file of intervals of the cells that the tables of a job hide, to be put under the name `out`: for each such
@@ -56,7 +56,7 @@ pub fn find_intervals<S: Shelf>(
 
     // Where the shelf fails at a file, the run came to it and nothing before it has a fault.
     ensures came_to { WhereTold (S.state shelf.old).files
-        (λ fs. HasComeTo (IntervalsComeTo fs name.now out.now) (reading_of result) fs (S.state shelf.new)) }
+        (λ fs. ReachedFile (IntervalsComeTo fs name.now out.now) (reading_of result) fs (S.state shelf.new)) }
 
     // The shelf was only looked at: its files stay, and each file was read to its end or its own limit at most.
     ensures shelf { HasOnlyLookedOn Purpose.Intervals name.now (S.state shelf.old) (S.state shelf.new) }

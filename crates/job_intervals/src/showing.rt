@@ -1,15 +1,15 @@
 ghost use Rattle.std.specs.Prelude.{◌≡◌, ◌<◌, ◌^◌, IfOk, length};
 ghost use Rattle.sdc_base.specs.Answers.{Gives};
 ghost use Rattle.worlds.specs.ProtectFaults.{fixed_hidden};
-ghost use Rattle.cert_check.specs.FirstFault.{fault_of};
-ghost use Rattle.shelved_tables.specs.TablesOnShelf.{IsReadyShelved};
+ghost use Rattle.cert_check.specs.FirstFault.{check_fault_of};
+ghost use Rattle.published_tables.specs.TablesOnShelf.{IsReadyShelved};
 ghost use Rattle.job_intervals.specs.ShownTables.{fixed_fault, flags_in, lines_read};
 
 use cert_check::CheckFault;
 use job_inputs::table_names;
+use published_tables::ShelvedJob;
 use release_writer::{hidden_of, hidden_sets_are_read_back};
 use sdc_base::{Cell, Hidden};
-use shelved_tables::ShelvedJob;
 use std::alloc::Global;
 
 /// The cells that the tables of a job hide, or the first fault of the tables: the first line that the texts of no
@@ -17,7 +17,7 @@ use std::alloc::Global;
 #[tactic(auto, unfolding(crate::specs::ShownTables::flags_in))]
 pub(crate) fn hidden_in(alloc: Global, shelved: &ShelvedJob) -> Result<Hidden, CheckFault>
     requires { IsReadyShelved shelved.now }
-    ensures exact { Gives fault_of (λ hidden. hidden.flags) result (flags_in shelved.now.job shelved.now.tables) }
+    ensures exact { Gives check_fault_of (λ hidden. hidden.flags) result (flags_in shelved.now.job shelved.now.tables) }
     ensures each { IfOk result (λ hidden. length hidden.flags ≡ length shelved.now.job.cells) }
 {
     let hidden = hidden_by_lines(alloc, shelved)?;
@@ -28,7 +28,8 @@ pub(crate) fn hidden_in(alloc: Global, shelved: &ShelvedJob) -> Result<Hidden, C
 // The cells that the tables hide, or the first bad line.
 fn hidden_by_lines(alloc: Global, shelved: &ShelvedJob) -> Result<Hidden, CheckFault>
     requires { IsReadyShelved shelved.now }
-    ensures exact { Gives fault_of (λ hidden. hidden.flags) result (lines_read shelved.now.job shelved.now.tables) }
+    ensures exact { Gives check_fault_of (λ hidden. hidden.flags) result
+        (lines_read shelved.now.job shelved.now.tables) }
     ensures each { IfOk result (λ hidden. length hidden.flags ≡ length shelved.now.job.cells) }
 {
     let job = &shelved.job;

@@ -12,9 +12,9 @@ abbrev pub fault_itself : JobWhy → Option JobWhy
 fault_itself why = Some why
 
 -- the fault for which a job isn't read or bound, behind the number of its line
-abbrev pub fault_of : JobError → Option (ℕ × JobWhy)
-fault_of job_error.Memory = None
-fault_of (job_error.At line why) = Some (line, why)
+abbrev pub job_fault_of : JobError → Option (ℕ × JobWhy)
+job_fault_of job_error.Memory = None
+job_fault_of (job_error.At line why) = Some (line, why)
 
 -- what a line gives, its fault behind the line's number
 abbrev pub at_line : {A : Type 0} → ℕ → Result A JobWhy → Result A (ℕ × JobWhy)

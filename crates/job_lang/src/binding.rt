@@ -3,7 +3,7 @@ ghost use Rattle.std.specs.List.{All};
 ghost use Rattle.std.specs.Option.{option_copied};
 ghost use Rattle.sdc_base.specs.Answers.{Gives};
 ghost use Rattle.sdc_base.specs.Places.{first_place};
-ghost use Rattle.job_lang.specs.Faults.{fault_of};
+ghost use Rattle.job_lang.specs.Faults.{job_fault_of};
 ghost use Rattle.job_lang.specs.JobLimits.{AreTables};
 ghost use Rattle.job_lang.specs.BoundLimits.{AreVariables, IsBound};
 ghost use Rattle.job_lang.specs.Binding.{bound_of};
@@ -36,7 +36,7 @@ use std::alloc::Global;
 pub fn bind(alloc: Global, job: &Job, meta: &Meta) -> Result<Bound, JobError>
     requires tables { AreTables job.now.tables }
     requires variables { AreVariables meta.now.variables }
-    ensures exact { Gives fault_of (λ bound. bound) result (bound_of job.now meta.now) }
+    ensures exact { Gives job_fault_of (λ bound. bound) result (bound_of job.now meta.now) }
     ensures within { IfOk result (λ bound. IsBound job.now meta.now.variables bound) }
 {
     let variables = meta.variables.as_slice();

@@ -1,7 +1,7 @@
 ghost use Rattle.std.specs.Prelude.{◌≡◌, ◌≤◌, Some};
 ghost use Rattle.std.specs.List.{list_any, count_by};
 ghost use Rattle.sdc_base.specs.Answers.{Gives};
-ghost use Rattle.job_lang.specs.Faults.{fault_of};
+ghost use Rattle.job_lang.specs.Faults.{job_fault_of};
 ghost use Rattle.job_lang.specs.FilesApart as spec;
 ghost use Rattle.job_lang.specs.RoundedContributors as rounded_contributors;
 
@@ -13,7 +13,7 @@ use sdc_base::{Method, Text};
 
 // The fault of a statement's line.
 fn statement_error(statement: &Statement, why: JobWhy) -> JobError
-    ensures { fault_of result ≡ Some (statement.now.line, why) }
+    ensures { job_fault_of result ≡ Some (statement.now.line, why) }
 {
     JobError::At {
         line: statement.line,
@@ -34,7 +34,7 @@ fn is_rounding(method: Option<Method>) -> bool
 /// The line of a contributors' file is a fault of a job that rounds.
 #[tactic(auto, unfolding(crate::specs::RoundedContributors::no_rounded_contributors))]
 pub(crate) fn no_rounded_contributors(said: &[Statement]) -> Result<(), JobError>
-    ensures { Gives fault_of (λ fine. fine) result (rounded_contributors.no_rounded_contributors said.now) }
+    ensures { Gives job_fault_of (λ fine. fine) result (rounded_contributors.no_rounded_contributors said.now) }
 {
     let rounds = is_rounding(method_of(statement_by(Keyword::Suppress, said)));
     let Some(statement) = statement_by(Keyword::Contributors, said) else {
@@ -70,7 +70,7 @@ fn is_astray(count: usize, said: &Instruction) -> bool
 #[tactic(auto, unfolding(crate::specs::FilesApart::no_stray))]
 pub(crate) fn no_stray(count: usize, said: &[Statement]) -> Result<(), JobError>
     requires { count ≤ 8 }
-    ensures { Gives fault_of (λ fine. fine) result (spec.no_stray count said.now) }
+    ensures { Gives job_fault_of (λ fine. fine) result (spec.no_stray count said.now) }
 {
     'said: for statement in said {
         if is_astray(count, &statement.said) {
@@ -143,7 +143,7 @@ fn puts_shared_file(all: &[Statement], said: &Instruction) -> bool
 /// The first statement that puts a file whose name another one has is a fault of its line.
 #[tactic(auto, unfolding(crate::specs::FilesApart::no_same_name))]
 pub(crate) fn no_same_name(all: &[Statement]) -> Result<(), JobError>
-    ensures { Gives fault_of (λ fine. fine) result (spec.no_same_name all.now all.now) }
+    ensures { Gives job_fault_of (λ fine. fine) result (spec.no_same_name all.now all.now) }
 {
     'said: for statement in all {
         if puts_shared_file(all, &statement.said) {

@@ -10,7 +10,7 @@ ghost use Rattle.job_lang.specs.BoundNames.{BoundAsNamed};
 
 /// The definitions give what worked jobs say by hand.
 #[tactic(auto, using(crate::proofs::RowsHold::eight_lines, crate::proofs::RowsHold::full_text, crate::proofs::RowsHold::full_lines, crate::proofs::RowsHold::name_before_missing, crate::proofs::RowsHold::rounded_contributors, crate::proofs::RowsHold::bindable, crate::proofs::RowsHold::code_list_met))]
-pub fn rows()
+pub fn worked_jobs()
     ensures eight_lines { EightLines }
     ensures full_text { FullText }
     ensures full_lines { FullLines }
@@ -22,7 +22,7 @@ pub fn rows()
 
 /// The fault that is given is the first in the stated order.
 #[tactic(auto, using(crate::proofs::FirstFault::in_order))]
-pub fn order()
+pub fn first_fault_is_given()
     ensures { IsInOrder }
 {}
 
@@ -55,7 +55,7 @@ pub fn metadata_fit()
 
 /// A job has what its lines state, each by itself, and the defaults where none does.
 #[tactic(auto, using(crate::proofs::Meant::are_meant))]
-pub fn meaning()
+pub fn jobs_are_as_stated()
     ensures { JobsAreMeant }
 {}
 
@@ -63,7 +63,7 @@ pub fn meaning()
 /// again as it is. Each job that was read has such a text, and is read again from it. And each line of such a text is
 /// read as what it says.
 #[tactic(auto, using(crate::proofs::SpelledLines::lines_read))]
-pub fn spelling()
+pub fn jobs_are_read_again()
     ensures lines { LinesAreRead }
     ensures text { TextIsRead }
     ensures round_trip { IsRoundTrip }

@@ -29,7 +29,8 @@ pub use cost_rule::CostKind;
 pub use faults::{Command, JobError, JobWhy};
 pub use job::{Job, OutputLine, PriorLine, TableLine};
 pub use laws::{
-    binding_by_name, binding_order, meaning, metadata_fit, names_apart, order, rows, spelling,
+    binding_by_name, binding_order, first_fault_is_given, jobs_are_as_stated, jobs_are_read_again,
+    metadata_fit, names_apart, worked_jobs,
 };
 pub use reading::read_job;
 pub use sdc_base::{Method, Rule, Rules};

@@ -4,7 +4,7 @@ ghost use Rattle.sdc_base.specs.Answers.{Gives};
 ghost use Rattle.sdc_base.specs.Blanks as blanks_specs;
 ghost use Rattle.sdc_base.specs.Lines as lines_specs;
 ghost use Rattle.plain_text.specs.Stops.{why_of};
-ghost use Rattle.job_lang.specs.Faults.{fault_of, at_line};
+ghost use Rattle.job_lang.specs.Faults.{job_fault_of, at_line};
 ghost use Rattle.job_lang.specs.Statements.{lines_say, empty_draft};
 ghost use Rattle.job_lang.specs.Statements as statements;
 
@@ -26,7 +26,7 @@ const MOST_VARIABLES: usize = 8;
 /// What all lines say.
 pub(crate) fn read_lines(alloc: Global, bytes: &[u8]) -> Result<Draft, JobError>
     requires { length bytes.now < 2 ^ 32 }
-    ensures { Gives fault_of (λ draft. draft) result (lines_say 0 empty_draft (lines_specs.lines bytes.now)) }
+    ensures { Gives job_fault_of (λ draft. draft) result (lines_say 0 empty_draft (lines_specs.lines bytes.now)) }
 {
     let mut reader = lines(bytes);
     let mut draft = Draft {
@@ -42,7 +42,7 @@ pub(crate) fn read_lines(alloc: Global, bytes: &[u8]) -> Result<Draft, JobError>
 // Takes in what the line with this number says.
 #[tactic(auto, using(crate::proofs::LineSteps::fails_at))]
 fn read_line(alloc: Global, line: u32, text: &[u8], draft: &mut Draft) -> Result<(), JobError>
-    ensures { Gives fault_of (λ _. draft.new) result
+    ensures { Gives job_fault_of (λ _. draft.new) result
         (at_line line (statements.text_says line draft.old (blanks_specs.trim text.now))) }
 {
     match text_says(alloc, line, trim(text), draft) {

@@ -1,7 +1,7 @@
 ghost use Rattle.std.specs.Prelude.{◌≡◌, ◌<◌, ◌≤◌, ◌^◌, length, IfOk};
 ghost use Rattle.sdc_base.specs.Answers.{Gives};
 ghost use Rattle.sdc_base.specs.Lines as lines_specs;
-ghost use Rattle.job_lang.specs.Faults.{fault_of};
+ghost use Rattle.job_lang.specs.Faults.{job_fault_of};
 ghost use Rattle.job_lang.specs.MissingCommands as missing_commands;
 ghost use Rattle.job_lang.specs.Jobs.{job_of};
 ghost use Rattle.job_lang.specs.Jobs as jobs;
@@ -40,7 +40,7 @@ const USUAL_NODES: u64 = 1_000_000;
 #[tactic(auto, unfolding(crate::specs::Jobs::job_of))]
 pub fn read_job(alloc: Global, bytes: &[u8]) -> Result<Job, JobError>
     requires { length bytes.now < 2 ^ 32 }
-    ensures exact { Gives fault_of (λ job. job) result (job_of bytes.now) }
+    ensures exact { Gives job_fault_of (λ job. job) result (job_of bytes.now) }
     ensures within { IfOk result (λ job. IsJob job) }
 {
     let draft = read_lines(alloc, bytes)?;
@@ -51,7 +51,7 @@ pub fn read_job(alloc: Global, bytes: &[u8]) -> Result<Job, JobError>
 #[tactic(auto, unfolding(crate::specs::Jobs::closed_job))]
 fn closed_job(alloc: Global, draft: Draft) -> Result<Job, JobError>
     requires { length draft.tables ≤ 8 }
-    ensures { Gives fault_of (λ job. job) result (jobs.closed_job draft) }
+    ensures { Gives job_fault_of (λ job. job) result (jobs.closed_job draft) }
 {
     no_rounded_contributors(draft.said.as_slice())?;
     no_stray(draft.tables.as_slice().len(), draft.said.as_slice())?;
@@ -72,7 +72,7 @@ fn missing_command(which: Command) -> JobError
 // The output of the table at this place, which must have one.
 fn output_of_table(alloc: Global, place: usize, said: &[Statement]) -> Result<OutputLine, JobError>
     requires { place < 8 }
-    ensures { Gives fault_of (λ output. output) result (missing_commands.output_of_table place said.now) }
+    ensures { Gives job_fault_of (λ output. output) result (missing_commands.output_of_table place said.now) }
 {
     let Some(output) = file_line(alloc, output_said(place, said))? else {
         return Err(missing_command(Command::WriteTable));
@@ -87,7 +87,7 @@ fn outputs_of_tables(
     said: &[Statement],
 ) -> Result<Items<OutputLine>, JobError>
     requires { count ≤ 8 }
-    ensures { Gives fault_of (λ outputs. outputs) result (missing_commands.outputs_from count 0 said.now) }
+    ensures { Gives job_fault_of (λ outputs. outputs) result (missing_commands.outputs_from count 0 said.now) }
 {
     let mut outputs = Items::empty(alloc);
     for place in 0..count {
@@ -101,7 +101,7 @@ fn outputs_of_tables(
 #[tactic(auto, unfolding(crate::specs::Jobs::job_made))]
 fn job_made(alloc: Global, draft: Draft) -> Result<Job, JobError>
     requires { length draft.tables ≤ 8 }
-    ensures { Gives fault_of (λ job. job) result (jobs.job_made draft) }
+    ensures { Gives job_fault_of (λ job. job) result (jobs.job_made draft) }
 {
     let said = draft.said.as_slice();
     let Some(micro) = file_line(alloc, statement_by(Keyword::OpenMicrodata, said))? else {

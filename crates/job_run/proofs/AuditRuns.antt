@@ -7,8 +7,8 @@ use Rattle.interval_audit.specs.declared.answer.AskFault.TheVariants as ask
 use Rattle.office_io.specs.Files.{Files}
 use Rattle.office_io.specs.Shelves.{ShelfState}
 use Rattle.office_io.specs.Trays.{TrayState, HasPut, HasPutInPart}
-use Rattle.job_inputs.specs.Reading.{stopped_for, HasCause, HasComeTo}
-use Rattle.job_inputs.specs.SettledJobs.{HasOnlyLookedOn}
+use Rattle.job_inputs.specs.Reading.{stopped_for, HasCause, ReachedFile}
+use Rattle.job_inputs.specs.ClassifiedJobs.{HasOnlyLookedOn}
 use Rattle.job_inputs.specs.declared.faults.Fault.{Fault}
 use Rattle.job_inputs.specs.declared.file_ref.FileRef.{FileRef}
 use Rattle.job_inputs.specs.declared.file_ref.FileRef.TheVariants as file
@@ -16,7 +16,7 @@ use Rattle.job_inputs.specs.declared.stop.InputStop.{InputStop}
 use Rattle.job_inputs.specs.declared.stop.InputStop.TheVariants as input
 use Rattle.job_audit.specs.Finding.{IsAuditFileAnswer, IsFileOf, IsUndecidedFor}
 use Rattle.job_inputs.specs.declared.purpose.Purpose.TheVariants.{Audit}
-use Rattle.shelved_tables.specs.TablesOnShelf.{ShelvedTables, shelved_for, ComesFor}
+use Rattle.published_tables.specs.TablesOnShelf.{ShelvedTables, shelved_for, ComesFor}
 use Rattle.job_audit.specs.Stops.{reading_of as finding_of}
 use Rattle.job_audit.specs.declared.audit_file.AuditFile.{AuditFile}
 use Rattle.job_audit.specs.declared.stop.AuditStop.{AuditStop}
@@ -83,7 +83,7 @@ stop-cause (stop.Inputs why) old new tray cause = inputs-cause why old new tray 
 stop-cause (stop.NotAccepted why) old new tray cause = no-fault _ old new tray tray refl (λ f is. absurd cc)
 stop-cause (stop.Undecided why) old new tray cause = question-cause why old new tray
 
-stop-comes : (e : AuditStop) (comes : FileRef → List ℕ → Type 0) (files : Files) (new : ShelfState) → HasComeTo comes (finding_of (Err e)) files new → HasComeTo comes (reading_of (stop_report e)) files new
+stop-comes : (e : AuditStop) (comes : FileRef → List ℕ → Type 0) (files : Files) (new : ShelfState) → ReachedFile comes (finding_of (Err e)) files new → ReachedFile comes (reading_of (stop_report e)) files new
 stop-comes (stop.Inputs why) comes files new come = inputs-come why comes files new come
 stop-comes (stop.NotAccepted why) comes files new come = read-comes comes files new
 stop-comes (stop.Undecided why) comes files new come = question-comes why comes files new
@@ -148,7 +148,7 @@ settles report.NoRounding outcome h no_read no_write = absurd h
 
 -- what holds of how it went on holds of a run that finds no audit
 pub stopped-run : (name out : List ℕ) (e : AuditStop) (old new : ShelfState) (tray : TrayState) → WhereTold old.files (λ fs. IsAuditFileAnswer (shelved_for Audit fs name out) (Err e))
-    → WhereTold old.files (λ fs. HasComeTo (ComesFor Audit fs name out) (finding_of (Err e)) fs new) → HasCause (finding_of (Err e)) old new → HasOnlyLookedOn Audit name old new → IsAuditRunOf name out (stop_report e) old new tray tray
+    → WhereTold old.files (λ fs. ReachedFile (ComesFor Audit fs name out) (finding_of (Err e)) fs new) → HasCause (finding_of (Err e)) old new → HasOnlyLookedOn Audit name old new → IsAuditRunOf name out (stop_report e) old new tray tray
 stopped-run name out e old new tray told come cause shelf = record {
   answers = stop-answers e;
   told = λ fs held. stop-meets e (shelved_for Audit fs name out) (told fs held);
@@ -163,11 +163,11 @@ stopped-run name out e old new tray told come cause shelf = record {
 
 -- the same of a run that went on so, and reports it
 pub stopped-run-of : (name out : List ℕ) (r : Result AuditFile AuditStop) (e : AuditStop) (answer : Report) (old new : ShelfState) (tray : TrayState) → r ≡ Err e → answer ≡ stop_report e → WhereTold old.files (λ fs. IsAuditFileAnswer (shelved_for Audit fs name out) r)
-    → WhereTold old.files (λ fs. HasComeTo (ComesFor Audit fs name out) (finding_of r) fs new) → HasCause (finding_of r) old new → HasOnlyLookedOn Audit name old new → IsAuditRunOf name out answer old new tray tray
+    → WhereTold old.files (λ fs. ReachedFile (ComesFor Audit fs name out) (finding_of r) fs new) → HasCause (finding_of r) old new → HasOnlyLookedOn Audit name old new → IsAuditRunOf name out answer old new tray tray
 stopped-run-of name out r e answer old new tray is same told come cause shelf =
     subst (λ (a : Report). IsAuditRunOf name out a old new tray tray) (sym same)
     (stopped-run name out e old new tray (λ fs held. subst (λ (o : Result AuditFile AuditStop). IsAuditFileAnswer (shelved_for Audit fs name out) o) is (told fs held))
-    (λ fs held. subst (λ (o : Result AuditFile AuditStop). HasComeTo (ComesFor Audit fs name out) (finding_of o) fs new) is (come fs held)) (subst (λ (o : Result AuditFile AuditStop). HasCause (finding_of o) old new) is cause) shelf)
+    (λ fs held. subst (λ (o : Result AuditFile AuditStop). ReachedFile (ComesFor Audit fs name out) (finding_of o) fs new) is (come fs held)) (subst (λ (o : Result AuditFile AuditStop). HasCause (finding_of o) old new) is cause) shelf)
 
 pub stopped-cause-of : (r : Result AuditFile AuditStop) (e : AuditStop) (answer : Report) (old new : ShelfState) (tray : TrayState) → r ≡ Err e → answer ≡ stop_report e → HasCause (finding_of r) old new → FaultsHaveCauses answer old new tray tray
 stopped-cause-of r e answer old new tray is same cause =

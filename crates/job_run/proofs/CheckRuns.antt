@@ -10,8 +10,8 @@ use Rattle.job_check.specs.Reading.{ReleaseComesTo}
 use Rattle.job_check.specs.ReleaseFiles.{ReleasedFiles, released_of}
 use Rattle.job_check.specs.declared.stop.CheckStop.{CheckStop}
 use Rattle.job_check.specs.declared.stop.CheckStop.TheVariants as check
-use Rattle.job_inputs.specs.Reading.{stopped_for, HasCause, HasComeTo}
-use Rattle.job_inputs.specs.SettledJobs.{HasOnlyLookedOn}
+use Rattle.job_inputs.specs.Reading.{stopped_for, HasCause, ReachedFile}
+use Rattle.job_inputs.specs.ClassifiedJobs.{HasOnlyLookedOn}
 use Rattle.job_inputs.specs.declared.purpose.Purpose.TheVariants.{Release}
 use Rattle.job_inputs.specs.declared.faults.Fault.{Fault}
 use Rattle.job_inputs.specs.declared.file_ref.FileRef.{FileRef}
@@ -72,7 +72,7 @@ check-cause (Err (check.Inputs why)) old new tray cause = inputs-cause why old n
 check-cause (Err (check.NotAccepted why)) old new tray cause = no-fault _ old new tray tray refl (λ f is. absurd cc)
 check-cause (Err (check.NotGuarded why)) old new tray cause = no-fault _ old new tray tray refl (λ f is. absurd cc)
 
-check-come : (r : Result (Unit {0}) CheckStop) (comes : FileRef → List ℕ → Type 0) (files : Files) (new : ShelfState) → ((e : InputStop) → r ≡ Err (check.Inputs e) → HasComeTo {X = Unit {0}} comes (Err e) files new) → HasComeTo comes (reading_of (check_report r)) files new
+check-come : (r : Result (Unit {0}) CheckStop) (comes : FileRef → List ℕ → Type 0) (files : Files) (new : ShelfState) → ((e : InputStop) → r ≡ Err (check.Inputs e) → ReachedFile {X = Unit {0}} comes (Err e) files new) → ReachedFile comes (reading_of (check_report r)) files new
 check-come (Ok fine) comes files new come = read-comes comes files new
 check-come (Err (check.Inputs why)) comes files new come = inputs-come why comes files new (come why refl)
 check-come (Err (check.NotAccepted why)) comes files new come = read-comes comes files new
@@ -91,7 +91,7 @@ check-answers (Err (check.NotGuarded why)) = tt
 
 -- what holds of how it went on holds of the check
 pub check-run : (name : List ℕ) (r : Result (Unit {0}) CheckStop) (old new : ShelfState) (tray : TrayState) → WhereTold old.files (λ fs. IsReleaseCheckAnswer (released_of fs name) r)
-    → WhereTold old.files (λ fs. (e : InputStop) → r ≡ Err (check.Inputs e) → HasComeTo {X = Unit {0}} (ReleaseComesTo fs name) (Err e) fs new)
+    → WhereTold old.files (λ fs. (e : InputStop) → r ≡ Err (check.Inputs e) → ReachedFile {X = Unit {0}} (ReleaseComesTo fs name) (Err e) fs new)
     → ((e : InputStop) → r ≡ Err (check.Inputs e) → HasCause {X = Unit {0}} (Err e) old new) → HasOnlyLookedOn Release name old new → IsCheckOf name (check_report r) old new tray tray
 check-run name r old new tray told come cause shelf = record {
   answers = check-answers r;

@@ -33,7 +33,7 @@ use Rattle.job_inputs.specs.Inputs.{job_for, described_of, look_at_records, inpu
 use Rattle.job_inputs.specs.CodeSources.{fields_of, spanning_variables}
 use Rattle.job_inputs.specs.ReadFiles.{bytes_of_file, job_fault, meta_fault}
 use Rattle.job_inputs.specs.Purposes.{is_unfit}
-use Rattle.job_inputs.specs.SettledJobs.{SettledInputs, overwrites_job, settled_of}
+use Rattle.job_inputs.specs.ClassifiedJobs.{SettledInputs, overwrites_job, settled_of}
 use Rattle.job_inputs.specs.declared.described.DescribedJob.{DescribedJob}
 use Rattle.job_inputs.specs.declared.file_ref.FileRef.TheVariants as file
 use Rattle.job_inputs.specs.declared.inputs.Inputs.{Inputs}

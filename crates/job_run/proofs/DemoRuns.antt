@@ -9,7 +9,7 @@ use Rattle.demo_files.specs.SteadyFiles.{shelf_with, empty_tray}
 use Rattle.office_io.specs.Shelves.{ShelfState}
 use Rattle.office_io.specs.Trays.{TrayState}
 use Rattle.worlds.specs.declared.refuted.Refuted.{Refuted}
-use Rattle.job_inputs.specs.SettledJobs.{settled_of}
+use Rattle.job_inputs.specs.ClassifiedJobs.{settled_of}
 use Rattle.job_inputs.specs.declared.purpose.Purpose.TheVariants as purpose
 use Rattle.job_run.specs.Demos.{IsDemoOf, SaysAnswer, SaysStuck}
 use Rattle.job_run.specs.Endings.{IsUndecided}

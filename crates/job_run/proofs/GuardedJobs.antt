@@ -19,11 +19,11 @@ use Rattle.certificate.specs.ExtraTexts.{extra_text}
 use Rattle.certificate.specs.Spelling.{IsSpellable}
 use Rattle.certificate.specs.Texts.{text_of}
 use Rattle.certificate.specs.declared.certificate.Certificate.{Certificate}
-use Rattle.cell_guards.specs.Guards.{IsCertified, IsGuardOf}
-use Rattle.cell_guards.specs.WholeOutcomes.{IsWholeOutcome}
-use Rattle.cell_guards.specs.declared.guarding.GuardedCells.{GuardedCells}
-use Rattle.cell_guards.specs.declared.guarding.Unguarded.{Unguarded}
-use Rattle.cell_guards.specs.declared.guarding.Unguarded.TheVariants as unguarded
+use Rattle.contributor_protection.specs.Guards.{IsCertified, IsGuardOf}
+use Rattle.contributor_protection.specs.WholeOutcomes.{IsWholeOutcome}
+use Rattle.contributor_protection.specs.declared.guarding.GuardedCells.{GuardedCells}
+use Rattle.contributor_protection.specs.declared.guarding.GuardFailure.{GuardFailure}
+use Rattle.contributor_protection.specs.declared.guarding.GuardFailure.TheVariants as guard_failure
 use Rattle.cell_protection.specs.Protections.{IsProtectionOf, HasText}
 use Rattle.cell_protection.specs.declared.protection.ProtectionOutcome.{ProtectionOutcome}
 use Rattle.cell_protection.specs.declared.protection.ProtectionOutcome.TheVariants as protection
@@ -39,14 +39,14 @@ use Rattle.worlds.specs.Protection.{Protection as HiddenSet}
 use Rattle.job_lang.specs.JobLimits.{CanHaveContributors}
 use Rattle.job_lang.specs.declared.job.Job.{Job}
 use Rattle.job_lang.specs.declared.job.OutputLine.{OutputLine}
-use Rattle.job_inputs.specs.SettledJobs.{SettledInputs, IsReadyJob, IsSettledOf}
-use Rattle.job_inputs.specs.declared.settled.SettledJob.{SettledJob}
+use Rattle.job_inputs.specs.ClassifiedJobs.{SettledInputs, IsReadyJob, IsSettledOf}
+use Rattle.job_inputs.specs.declared.settled.ClassifiedJob.{ClassifiedJob}
 use Rattle.job_run.specs.Books.{job_of}
 use Rattle.job_run.specs.GuardedReleases.{IsGuardFor, IsGuardedRelease, guarded_puts, count_hidden}
 use Rattle.job_run.specs.Releases.{shown_in, summary_of}
 use Rattle.job_run.specs.FileCounts.{contributors_count, file_count}
 use Rattle.job_run.specs.Roundings.{base_in_units, job_base}
-use Rattle.job_run.specs.Reporting.{unguarded_report}
+use Rattle.job_run.specs.Reporting.{guard_failure_report}
 use Rattle.job_run.specs.Reports.{ComesToRelease}
 use Rattle.job_run.specs.declared.put.Release.{Release}
 use Rattle.job_run.proofs.Releasing.{each-flag, hiding-comes, outcome-for, stuck-comes, same-contributors, signs-for}
@@ -60,7 +60,7 @@ soles-still old new rows soles same are = λ cell name at.
     (are cell name (ap (λ (names : List Name). slice_get names cell) (same-cells old new same) ∙ at))
 
 -- what guarding comes to by the one book it comes to by the other
-guard-still : (old new : BookView) (rows : List Row) (c : Case) (prices : List ℕ) (limit : ℕ) (hidden_set : HiddenSet) (certificate : Certificate) (outcome : Result GuardedCells Unguarded) → IsSameButHidden old new
+guard-still : (old new : BookView) (rows : List Row) (c : Case) (prices : List ℕ) (limit : ℕ) (hidden_set : HiddenSet) (certificate : Certificate) (outcome : Result GuardedCells GuardFailure) → IsSameButHidden old new
     → IsGuardOf new rows c prices limit hidden_set certificate outcome → IsGuardOf old rows c prices limit hidden_set certificate outcome
 guard-still old new rows c prices limit hidden_set certificate (Ok guarded) same is = record {
   soles = is.soles;
@@ -69,21 +69,21 @@ guard-still old new rows c prices limit hidden_set certificate (Ok guarded) same
   are_soles = soles-still old new rows is.soles same is.are_soles;
   comes_to = is.comes_to;
 }
-guard-still old new rows c prices limit hidden_set certificate (Err (unguarded.CannotAgainst found)) same is = record {
+guard-still old new rows c prices limit hidden_set certificate (Err (guard_failure.CannotAgainst found)) same is = record {
   soles = is.soles;
   one_each = is.one_each;
   each_named = is.each_named ∙ ap (λ (names : List Name). length names) (same-cells old new same);
   are_soles = soles-still old new rows is.soles same is.are_soles;
   comes_to = is.comes_to;
 }
-guard-still old new rows c prices limit hidden_set certificate (Err (unguarded.Undecided stopped against)) same is = record {
+guard-still old new rows c prices limit hidden_set certificate (Err (guard_failure.Undecided stopped against)) same is = record {
   soles = is.soles;
   one_each = is.one_each;
   each_named = is.each_named ∙ ap (λ (names : List Name). length names) (same-cells old new same);
   are_soles = soles-still old new rows is.soles same is.are_soles;
   comes_to = is.comes_to;
 }
-guard-still old new rows c prices limit hidden_set certificate (Err unguarded.Memory) same is = tt
+guard-still old new rows c prices limit hidden_set certificate (Err guard_failure.Memory) same is = tt
 
 -- ---- the file for contributors
 
@@ -94,7 +94,7 @@ line-of (Some line) name is = (line, refl, let same : line.file ≡ name = cc in
 -- ---- the parts of a job
 
 -- what holds of a ready job holds of its parts, read through slices
-pub parts-ready : (job : SettledJob) (cells : List Cell) (rows : List Row) → cells ≡ job.cells → rows ≡ job.rows → IsReadyJob job → IsReadyJob (job_of job.described job.book cells rows 0 0)
+pub parts-ready : (job : ClassifiedJob) (cells : List Cell) (rows : List Row) → cells ≡ job.cells → rows ≡ job.rows → IsReadyJob job → IsReadyJob (job_of job.described job.book cells rows 0 0)
 parts-ready job cells rows same same_rows ready =
     subst (λ (all : List Cell). IsReadyJob (job_of job.described job.book all rows 0 0)) (sym same)
     (subst (λ (all : List Row). IsReadyJob (job_of job.described job.book job.cells all 0 0)) (sym same_rows) (record {
@@ -110,7 +110,7 @@ parts-ready job cells rows same same_rows ready =
     }))
 
 -- and they have its inputs
-pub parts-settled : (settled : SettledInputs) (job : SettledJob) (cells : List Cell) (rows : List Row) → cells ≡ job.cells → rows ≡ job.rows → IsSettledOf settled job → IsSettledOf settled (job_of job.described job.book cells rows job.records job.skipped)
+pub parts-settled : (settled : SettledInputs) (job : ClassifiedJob) (cells : List Cell) (rows : List Row) → cells ≡ job.cells → rows ≡ job.rows → IsSettledOf settled job → IsSettledOf settled (job_of job.described job.book cells rows job.records job.skipped)
 parts-settled settled job cells rows same same_rows is =
     subst (λ (all : List Cell). IsSettledOf settled (job_of job.described job.book all rows job.records job.skipped)) (sym same)
     (subst (λ (all : List Row). IsSettledOf settled (job_of job.described job.book job.cells all job.records job.skipped)) (sym same_rows) (record {
@@ -125,7 +125,7 @@ parts-settled settled job cells rows same same_rows is =
 -- ---- what a job comes to
 
 -- what guarding a protected job comes to, it comes to for its settled inputs
-pub guard-for : (settled : SettledInputs) (job : SettledJob) (system : System) (new : BookView) (cells : List Cell) (rows : List Row) (name : List ℕ) (one : ProtectionOutcome) (hidden_set : HiddenSet) (certificate : Certificate) (outcome : Result GuardedCells Unguarded)
+pub guard-for : (settled : SettledInputs) (job : ClassifiedJob) (system : System) (new : BookView) (cells : List Cell) (rows : List Row) (name : List ℕ) (one : ProtectionOutcome) (hidden_set : HiddenSet) (certificate : Certificate) (outcome : Result GuardedCells GuardFailure)
     → job_base job.described ≡ None → option_map (λ (line : OutputLine). line.file) job.described.job.contributors ≡ Some name → IsSettledOf settled job → IsBook job.book → IsSystemOf job.book system → cells ≡ job.cells → rows ≡ job.rows → one ≡ protection.Protected hidden_set certificate
     → IsSameButHidden job.book new
     → IsProtectionOf (protected_case system cells) (prices_of job.described.job.cost cells job.book.marks) job.described.job.method (trail_of job.book cells job.described.job.cost (passes_of job.described.job.method)) job.described.job.steps one
@@ -154,11 +154,11 @@ guard-for settled job system new cells rows name one hidden_set certificate outc
     }
 
 -- why a hidden set isn't guarded stops the run
-pub unguarded-comes : (settled : SettledInputs) (hidden_set : HiddenSet) (certificate : Certificate) (why : Unguarded) → IsGuardFor settled hidden_set certificate (Err why) → ComesToRelease settled (Err (unguarded_report why))
-unguarded-comes settled hidden_set certificate (unguarded.CannotAgainst found) is = (tt, record { hidden_set = hidden_set; certificate = certificate; guards = is })
-unguarded-comes settled hidden_set certificate (unguarded.Undecided stopped against) is =
+pub guard-failure-comes : (settled : SettledInputs) (hidden_set : HiddenSet) (certificate : Certificate) (why : GuardFailure) → IsGuardFor settled hidden_set certificate (Err why) → ComesToRelease settled (Err (guard_failure_report why))
+guard-failure-comes settled hidden_set certificate (guard_failure.CannotAgainst found) is = (tt, record { hidden_set = hidden_set; certificate = certificate; guards = is })
+guard-failure-comes settled hidden_set certificate (guard_failure.Undecided stopped against) is =
     stuck-comes settled stopped.fault stopped.repairs stopped.shown (Some against) (record { hidden_set = hidden_set; certificate = certificate; guards = is })
-unguarded-comes settled hidden_set certificate unguarded.Memory is = (tt, tt)
+guard-failure-comes settled hidden_set certificate guard_failure.Memory is = (tt, tt)
 
 -- a guarded set makes a guarded release
 pub guarded-is : (settled : SettledInputs) (release : Release) (hidden_set : HiddenSet) (certificate : Certificate) (guarded : GuardedCells) (name : List ℕ) → IsGuardFor settled hidden_set certificate (Ok guarded)
@@ -183,13 +183,13 @@ guarded-is settled release hidden_set certificate guarded name guards named same
     }
 
 -- and that is what the job comes to
-pub guarded-comes : (settled : SettledInputs) (job : SettledJob) (name : List ℕ) (release : Release) → job_base job.described ≡ None → option_map (λ (line : OutputLine). line.file) job.described.job.contributors ≡ Some name → IsSettledOf settled job → IsGuardedRelease settled release → ComesToRelease settled (Ok release)
+pub guarded-comes : (settled : SettledInputs) (job : ClassifiedJob) (name : List ℕ) (release : Release) → job_base job.described ≡ None → option_map (λ (line : OutputLine). line.file) job.described.job.contributors ≡ Some name → IsSettledOf settled job → IsGuardedRelease settled release → ComesToRelease settled (Ok release)
 guarded-comes settled job name release hides named is_of is =
     let line = line-of job.described.job.contributors name named in
     hiding-comes settled job (Some line.0) release hides line.1 is_of is
 
 -- its settled inputs name the file too
-pub file-named : (settled : SettledInputs) (job : SettledJob) (name : List ℕ) → IsSettledOf settled job → option_map (λ (line : OutputLine). line.file) job.described.job.contributors ≡ Some name → option_map (λ (line : OutputLine). line.file) settled.inputs.described.job.contributors ≡ Some name
+pub file-named : (settled : SettledInputs) (job : ClassifiedJob) (name : List ℕ) → IsSettledOf settled job → option_map (λ (line : OutputLine). line.file) job.described.job.contributors ≡ Some name → option_map (λ (line : OutputLine). line.file) settled.inputs.described.job.contributors ≡ Some name
 file-named settled job name is_of named = ap (λ (o : Option OutputLine). option_map (λ (line : OutputLine). line.file) o) (same-contributors settled job is_of) ∙ named
 
 -- ---- how many files

@@ -23,7 +23,7 @@ use Rattle.attackers.specs.declared.attack.Attack.{Attack}
 use Rattle.attackers.proofs.AllAttacks.{within_cells}
 use Rattle.attackers.proofs.EachAttack.{guards_each}
 use Rattle.attackers.proofs.Knowing.{left_says}
-use Rattle.job_inputs.specs.SettledJobs.{SettledInputs}
+use Rattle.job_inputs.specs.ClassifiedJobs.{SettledInputs}
 use Rattle.job_run.specs.GuardedReleases.{IsGuardedRelease}
 use Rattle.job_run.specs.declared.put.Release.{Release}
 use Rattle.job_run.proofs.KnownCells.{known-same, knows-none, unknown-same}

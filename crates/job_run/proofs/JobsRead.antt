@@ -19,7 +19,7 @@ use Rattle.job_inputs.specs.Layouts.{layout_of}
 use Rattle.job_inputs.specs.PriorStatements.{priors_of}
 use Rattle.job_inputs.specs.Purposes.{is_unfit}
 use Rattle.job_inputs.specs.ReadFiles.{bytes_of_file, job_fault, meta_fault}
-use Rattle.job_inputs.specs.SettledJobs.{SettledInputs, settled_of, settled_cells, overwrites_job}
+use Rattle.job_inputs.specs.ClassifiedJobs.{SettledInputs, settled_of, settled_cells, overwrites_job}
 use Rattle.job_inputs.specs.declared.described.DescribedJob.{DescribedJob}
 use Rattle.job_inputs.specs.declared.faults.Fault.TheVariants as fault
 use Rattle.job_inputs.specs.declared.file_ref.FileRef.TheVariants as file

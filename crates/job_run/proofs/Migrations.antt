@@ -10,7 +10,7 @@ use Rattle.office_io.specs.Trays.{TrayState}
 use Rattle.job_inputs.specs.CertificateFile.{certificate_in, IsSoundCertificate}
 use Rattle.job_inputs.specs.Looks.{IsFile}
 use Rattle.job_inputs.specs.ReadFiles.{output_limit}
-use Rattle.job_inputs.specs.Reading.{stopped_for, HasComeTo, IsReadFrom}
+use Rattle.job_inputs.specs.Reading.{stopped_for, ReachedFile, IsReadFrom}
 use Rattle.job_inputs.specs.declared.faults.Fault.{Fault}
 use Rattle.job_inputs.specs.declared.faults.Fault.TheVariants as fault
 use Rattle.job_inputs.specs.declared.file_ref.FileRef.{FileRef}
@@ -158,9 +158,9 @@ put-cause certificate new answer shelf shelved before after h =
     by-put certificate new before after (λ (one : Report). FaultsHaveCauses one shelf shelved before after) (λ put. no-fault _ shelf shelved before after refl (λ f is. absurd cc))
     (λ f put. record { reading = read-cause shelf shelved; write_fault = λ g is. put.1.failed }) (λ put. no-memory shelf shelved before after) answer h
 
-put-comes : (certificate : Certificate) (new : List ℕ) (answer : Report) (before after : TrayState) (comes : FileRef → List ℕ → Type 0) (files : Files) (shelved : ShelfState) → IsPutAgain certificate new answer before after → HasComeTo comes (reading_of answer) files shelved
+put-comes : (certificate : Certificate) (new : List ℕ) (answer : Report) (before after : TrayState) (comes : FileRef → List ℕ → Type 0) (files : Files) (shelved : ShelfState) → IsPutAgain certificate new answer before after → ReachedFile comes (reading_of answer) files shelved
 put-comes certificate new answer before after comes files shelved h =
-    by-put certificate new before after (λ (one : Report). HasComeTo comes (reading_of one) files shelved) (λ put. read-comes comes files shelved) (λ f put. read-comes comes files shelved) (λ put. memory-comes comes files shelved) answer h
+    by-put certificate new before after (λ (one : Report). ReachedFile comes (reading_of one) files shelved) (λ put. read-comes comes files shelved) (λ f put. read-comes comes files shelved) (λ put. memory-comes comes files shelved) answer h
 
 put-once : (certificate : Certificate) (new : List ℕ) (answer : Report) (before after : TrayState) → IsPutAgain certificate new answer before after → HasAtMostOnePut new before after
 put-once certificate new answer before after h =

@@ -9,8 +9,8 @@ use Rattle.office_io.specs.Shelves.{ShelfState}
 use Rattle.office_io.specs.Trays.{TrayState}
 use Rattle.worlds.specs.declared.multipliers.Multipliers.{Multipliers}
 use Rattle.worlds.specs.declared.refuted.Refuted.{Refuted}
-use Rattle.job_inputs.specs.Reading.{stopped_for, HasCause, HasComeTo}
-use Rattle.job_inputs.specs.SettledJobs.{SettledInputs}
+use Rattle.job_inputs.specs.Reading.{stopped_for, HasCause, ReachedFile}
+use Rattle.job_inputs.specs.ClassifiedJobs.{SettledInputs}
 use Rattle.job_inputs.specs.declared.faults.Fault.{Fault}
 use Rattle.job_inputs.specs.declared.file_ref.FileRef.{FileRef}
 use Rattle.job_inputs.specs.declared.stop.InputStop.{InputStop}
@@ -40,14 +40,14 @@ pub memory-cause : {X : Type 0} (old new : ShelfState) → HasCause {X = X} (Err
 memory-cause old new = record { absent = λ f is. absurd cc; too_long = λ f is. absurd cc; read_fault = λ f is. absurd cc; tree = λ f is. absurd cc }
 
 -- and came at no file
-pub memory-comes : {X : Type 0} (comes : FileRef → List ℕ → Type 0) (files : Files) (new : ShelfState) → HasComeTo {X = X} comes (Err input.Memory) files new
+pub memory-comes : {X : Type 0} (comes : FileRef → List ℕ → Type 0) (files : Files) (new : ShelfState) → ReachedFile {X = X} comes (Err input.Memory) files new
 memory-comes comes files new = λ f is. absurd cc
 
 -- nor does reading that wasn't stopped
 pub read-cause : (old new : ShelfState) → HasCause {X = Unit {0}} (Ok tt) old new
 read-cause old new = record { absent = λ f is. absurd cc; too_long = λ f is. absurd cc; read_fault = λ f is. absurd cc; tree = λ f is. absurd cc }
 
-pub read-comes : (comes : FileRef → List ℕ → Type 0) (files : Files) (new : ShelfState) → HasComeTo {X = Unit {0}} comes (Ok tt) files new
+pub read-comes : (comes : FileRef → List ℕ → Type 0) (files : Files) (new : ShelfState) → ReachedFile {X = Unit {0}} comes (Ok tt) files new
 read-comes comes files new = λ f is. absurd cc
 
 -- ---- causes
@@ -79,7 +79,7 @@ inputs-written input.Memory f is = absurd cc
 pub inputs-cause : {X : Type 0} (e : InputStop) (old new : ShelfState) (tray : TrayState) → HasCause {X = X} (Err e) old new → FaultsHaveCauses (inputs_report e) old new tray tray
 inputs-cause e old new tray cause = record { reading = rw (inputs-read e) (cause-as e old new cause); write_fault = λ f is. absurd (inputs-written e f is) }
 
-pub inputs-come : {X : Type 0} (e : InputStop) (comes : FileRef → List ℕ → Type 0) (files : Files) (new : ShelfState) → HasComeTo {X = X} comes (Err e) files new → HasComeTo comes (reading_of (inputs_report e)) files new
+pub inputs-come : {X : Type 0} (e : InputStop) (comes : FileRef → List ℕ → Type 0) (files : Files) (new : ShelfState) → ReachedFile {X = X} comes (Err e) files new → ReachedFile comes (reading_of (inputs_report e)) files new
 inputs-come e comes files new come = rw (inputs-read e) (come-on e comes comes files new (λ f held is. is) come)
 
 pub inputs-stop : (e : InputStop) → StopsRelease (inputs_report e)
@@ -150,9 +150,9 @@ end-cause e old new tray end =
     by-end (λ (one : Report). FaultsHaveCauses one old new tray tray) (λ cell side multipliers. no-fault _ old new tray tray refl (λ f is. absurd cc)) (λ row cell side multipliers. no-fault _ old new tray tray refl (λ f is. absurd cc))
     (no-fault _ old new tray tray refl (λ f is. absurd cc)) (λ why repairs shown against. no-fault _ old new tray tray refl (λ f is. absurd cc)) (no-memory old new tray tray) e end
 
-pub end-comes : (e : Report) (comes : FileRef → List ℕ → Type 0) (files : Files) (new : ShelfState) → IsEndWithoutRelease e → HasComeTo comes (reading_of e) files new
+pub end-comes : (e : Report) (comes : FileRef → List ℕ → Type 0) (files : Files) (new : ShelfState) → IsEndWithoutRelease e → ReachedFile comes (reading_of e) files new
 end-comes e comes files new end =
-    by-end (λ (one : Report). HasComeTo comes (reading_of one) files new) (λ cell side multipliers. read-comes comes files new) (λ row cell side multipliers. read-comes comes files new)
+    by-end (λ (one : Report). ReachedFile comes (reading_of one) files new) (λ cell side multipliers. read-comes comes files new) (λ row cell side multipliers. read-comes comes files new)
     (read-comes comes files new) (λ why repairs shown against. read-comes comes files new) (memory-comes comes files new) e end
 
 -- ---- what stopped the puts came after whole inputs
@@ -183,6 +183,6 @@ pub puts-cause : (e : Stop FileRef) (old new : ShelfState) (before after : TrayS
 puts-cause (puts.Fault g) old new before after cause = record { reading = read-cause old new; write_fault = λ f is. cause g refl }
 puts-cause puts.Memory old new before after cause = no-memory old new before after
 
-pub puts-come : (e : Stop FileRef) (comes : FileRef → List ℕ → Type 0) (files : Files) (new : ShelfState) → HasComeTo comes (reading_of (puts_report e)) files new
+pub puts-come : (e : Stop FileRef) (comes : FileRef → List ℕ → Type 0) (files : Files) (new : ShelfState) → ReachedFile comes (reading_of (puts_report e)) files new
 puts-come (puts.Fault g) comes files new = read-comes comes files new
 puts-come puts.Memory comes files new = memory-comes comes files new

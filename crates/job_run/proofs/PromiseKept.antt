@@ -59,7 +59,7 @@ use Rattle.job_inputs.specs.Cells.{cells, cells_fault, figures, prior_fault}
 use Rattle.job_inputs.specs.Inputs.{inputs_of}
 use Rattle.job_inputs.specs.PriorStatements.{prior_line, priors_of, with_bytes, with_file, with_files, basis_in}
 use Rattle.job_inputs.specs.ReadFiles.{bytes_of_file}
-use Rattle.job_inputs.specs.SettledJobs.{SettledInputs, overwrites_job, settled_cells, settled_of}
+use Rattle.job_inputs.specs.ClassifiedJobs.{SettledInputs, overwrites_job, settled_cells, settled_of}
 use Rattle.job_inputs.specs.declared.faults.Fault.{Fault}
 use Rattle.job_inputs.specs.declared.faults.Fault.TheVariants as fault
 use Rattle.job_inputs.specs.declared.file_ref.FileRef.TheVariants as file

@@ -15,7 +15,7 @@ use Rattle.sdc_base.specs.declared.side.Side.TheVariants.{Above, Below}
 use Rattle.sdc_base.specs.declared.system.System.{System}
 use Rattle.relations.specs.Holding.{sum_in}
 use Rattle.apriori.specs.Settling.{SettledCell, view_of_cell}
-use Rattle.job_inputs.specs.SettledJobs.{SettledInputs}
+use Rattle.job_inputs.specs.ClassifiedJobs.{SettledInputs}
 use Rattle.job_inputs.specs.declared.inputs.Inputs.{Inputs}
 use Rattle.job_run.specs.Promise.{AddUp, IsCompleteTable, IsWithinStatedBounds, ReachesLevel, StaysOpen}
 use Rattle.job_run.specs.Roundings.{IsSystemIn}

@@ -25,7 +25,7 @@ use Rattle.apriori.specs.Settling.{SettledCell, view_of_cell}
 use Rattle.job_lang.specs.declared.job.OutputLine.{OutputLine}
 use Rattle.job_lang.specs.declared.job.TableLine.{TableLine}
 use Rattle.office_io.specs.Files.{Files}
-use Rattle.job_inputs.specs.SettledJobs.{SettledInputs}
+use Rattle.job_inputs.specs.ClassifiedJobs.{SettledInputs}
 use Rattle.job_inputs.specs.Tables.{names_of}
 use Rattle.job_inputs.specs.declared.inputs.Inputs.{Inputs}
 use Rattle.job_run.specs.Promise.{TablesShow, IsSensitive, IsPermittedSet, NeedsEachCell, ProtectsEachCell, IsHiddenForOthers, without}

@@ -7,12 +7,12 @@ use Rattle.office_io.specs.Shelves.{ShelfState}
 use Rattle.office_io.specs.Trays.{TrayState}
 use Rattle.job_inputs.specs.Looks.{InputsComeTo}
 use Rattle.job_inputs.specs.ReadFiles.{limit}
-use Rattle.job_inputs.specs.Reading.{stopped_for, HasCause, HasComeTo, HasOnlyLooked}
-use Rattle.job_inputs.specs.SettledJobs.{IsSettledOf, SettledInputs, settled_of}
+use Rattle.job_inputs.specs.Reading.{stopped_for, HasCause, ReachedFile, HasOnlyLooked}
+use Rattle.job_inputs.specs.ClassifiedJobs.{IsSettledOf, SettledInputs, settled_of}
 use Rattle.job_inputs.specs.declared.faults.Fault.{Fault}
 use Rattle.job_inputs.specs.declared.file_ref.FileRef.{FileRef}
 use Rattle.job_inputs.specs.declared.purpose.Purpose.TheVariants as purpose
-use Rattle.job_inputs.specs.declared.settled.SettledJob.{SettledJob}
+use Rattle.job_inputs.specs.declared.settled.ClassifiedJob.{ClassifiedJob}
 use Rattle.job_inputs.specs.declared.stop.InputStop.{InputStop}
 use Rattle.job_run.specs.PutReleases.{HasReleased, IsSomeRelease, PutsOnce, Releases}
 use Rattle.job_run.specs.Puts.{AllWhole, OneInPart, SomeWhole}
@@ -56,7 +56,7 @@ no-release e s stops is = subst StopsRelease is stops
 
 stopped-run : (name : List ℕ) (e : Report) (old new : ShelfState) (before after : TrayState) → StopsRelease e → WhereTold old.files (λ fs. AgreesWith e (settled_of purpose.Release fs name))
     → WhereTold old.files (λ fs. LeavesTray e (settled_of purpose.Release fs name) before after) → PutsOnce e before after → HasOnlyLooked limit old new → FaultsHaveCauses e old new before after
-    → WhereTold old.files (λ fs. HasComeTo (InputsComeTo purpose.Release fs name) (reading_of e) fs new) → IsReleaseRunOf name e old new before after
+    → WhereTold old.files (λ fs. ReachedFile (InputsComeTo purpose.Release fs name) (reading_of e) fs new) → IsReleaseRunOf name e old new before after
 stopped-run name e old new before after stops told left once shelf causes come = record {
   answers = stops-answer e stops;
   told = told;
@@ -70,14 +70,14 @@ stopped-run name e old new before after stops told left once shelf causes come =
 
 -- the reading of its inputs was stopped
 pub inputs-run : {X : Type 0} (name : List ℕ) (e : InputStop) (old new : ShelfState) (tray : TrayState) → WhereTold old.files (λ fs. Fails (stopped_for e) (settled_of purpose.Release fs name))
-    → WhereTold old.files (λ fs. HasComeTo {X = X} (InputsComeTo purpose.Release fs name) (Err e) fs new) → HasOnlyLooked limit old new → HasCause {X = X} (Err e) old new
+    → WhereTold old.files (λ fs. ReachedFile {X = X} (InputsComeTo purpose.Release fs name) (Err e) fs new) → HasOnlyLooked limit old new → HasCause {X = X} (Err e) old new
     → IsReleaseRunOf name (inputs_report e) old new tray tray
 inputs-run name e old new tray told come shelf cause =
     stopped-run name (inputs_report e) old new tray tray (inputs-stop e) (λ fs held. inputs-meet e (settled_of purpose.Release fs name) (told fs held)) (λ fs held. inputs-leave e (settled_of purpose.Release fs name) tray)
     (inputs-put-none e tray) shelf (inputs-cause e old new tray cause) (λ fs held. inputs-come e (InputsComeTo purpose.Release fs name) fs new (come fs held))
 
 -- its settled inputs came to no release
-pub end-run : (name : List ℕ) (job : SettledJob) (e : Report) (some : SettledInputs) (old new : ShelfState) (tray : TrayState) → ((settled : SettledInputs) → IsSettledOf settled job → ComesToRelease settled (Err e)) → IsSettledOf some job
+pub end-run : (name : List ℕ) (job : ClassifiedJob) (e : Report) (some : SettledInputs) (old new : ShelfState) (tray : TrayState) → ((settled : SettledInputs) → IsSettledOf settled job → ComesToRelease settled (Err e)) → IsSettledOf some job
     → WhereTold old.files (λ fs. IsOkAnd (settled_of purpose.Release fs name) (λ settled. IsSettledOf settled job)) → HasOnlyLooked limit old new → IsReleaseRunOf name e old new tray tray
 end-run name job e some old new tray comes is told shelf =
     let end = (comes some is).0 in
@@ -87,7 +87,7 @@ end-run name job e some old new tray comes is told shelf =
     (λ fs held. end-leaves e (settled_of purpose.Release fs name) tray end) (end-puts-none e tray end) shelf (end-cause e old new tray end) (λ fs held. end-comes e (InputsComeTo purpose.Release fs name) fs new end)
 
 -- its release was put in part, or not at all
-pub puts-run : (name : List ℕ) (job : SettledJob) (release : Release) (e : Stop FileRef) (old new : ShelfState) (before after : TrayState) → ((settled : SettledInputs) → IsSettledOf settled job → ComesToRelease settled (Ok release)) → IsSomeRelease release
+pub puts-run : (name : List ℕ) (job : ClassifiedJob) (release : Release) (e : Stop FileRef) (old new : ShelfState) (before after : TrayState) → ((settled : SettledInputs) → IsSettledOf settled job → ComesToRelease settled (Ok release)) → IsSomeRelease release
     → WhereTold old.files (λ fs. IsOkAnd (settled_of purpose.Release fs name) (λ settled. IsSettledOf settled job)) → HasOnlyLooked limit old new
     → ((f : FileRef) → IsErrOf {T = Unit {0}} (Err e) (puts.Fault f) → OneInPart release.puts f before after) → (IsErrOf {T = Unit {0}} (Err e) puts.Memory → SomeWhole release.puts before after)
     → ((f : FileRef) → IsErrOf {T = Unit {0}} (Err e) (puts.Fault f) → HasRisen before.faults after.faults) → IsReleaseRunOf name (puts_report e) old new before after
@@ -107,7 +107,7 @@ ok-is P (Err f) h = absurd h
 by-numbers : (P : Summary → Type 0) (one other : Summary) → report.Released one ≡ report.Released other → P one → P other
 by-numbers P one other is h = let same : one ≡ other = cc in subst P same h
 
-pub released-run : (name : List ℕ) (job : SettledJob) (release : Release) (old new : ShelfState) (before after : TrayState) → IsSomeRelease release → AllWhole release.puts before after
+pub released-run : (name : List ℕ) (job : ClassifiedJob) (release : Release) (old new : ShelfState) (before after : TrayState) → IsSomeRelease release → AllWhole release.puts before after
     → WhereTold old.files (λ fs. IsOkAnd (settled_of purpose.Release fs name) (λ settled. IsSettledOf settled job)) → HasOnlyLooked limit old new → WhereTold old.files (λ fs. HasReleased fs name release before after)
     → IsReleaseRunOf name (report.Released release.summary) old new before after
 released-run name job release old new before after some whole told shelf released = record {

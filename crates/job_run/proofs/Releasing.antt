@@ -35,10 +35,10 @@ use Rattle.repair.specs.declared.stopped.Stopped.{Stopped}
 use Rattle.worlds.specs.Protection.{Protection as HiddenSet}
 use Rattle.worlds.specs.declared.refuted.Refuted.{Refuted}
 use Rattle.job_inputs.specs.Cells.{cells}
-use Rattle.job_inputs.specs.SettledJobs.{SettledInputs, IsSettledOf}
+use Rattle.job_inputs.specs.ClassifiedJobs.{SettledInputs, IsSettledOf}
 use Rattle.job_inputs.specs.TabulatedBooks.{IsReadyFor}
 use Rattle.job_inputs.specs.declared.described.DescribedJob.{DescribedJob}
-use Rattle.job_inputs.specs.declared.settled.SettledJob.{SettledJob}
+use Rattle.job_inputs.specs.declared.settled.ClassifiedJob.{ClassifiedJob}
 use Rattle.relations.specs.Holding.{IsSystemOf}
 use Rattle.relations.specs.TableSigns.{HaveSigns, IsOneOrTwoWay}
 use Rattle.relations.proofs.SignedTables.{one_or_two_way_has_signs}
@@ -52,18 +52,18 @@ use Rattle.job_run.specs.Reporting.{stuck_report, stopped_report}
 use Rattle.job_run.specs.Reports.{ComesToRelease}
 
 -- a job has the base of its settled inputs, if it has one
-pub same-base : (settled : SettledInputs) (job : SettledJob) → IsSettledOf settled job → job_base settled.inputs.described ≡ job_base job.described
+pub same-base : (settled : SettledInputs) (job : ClassifiedJob) → IsSettledOf settled job → job_base settled.inputs.described ≡ job_base job.described
 same-base settled job is = ap job_base (sym is.described)
 
 -- the relations of a job of one table of one variable, or of two flat ones, have signs
-pub signs-for : (settled : SettledInputs) (job : SettledJob) (system : System) → IsOneOrTwoWay settled.inputs.records.trees settled.inputs.described.bound.tables → IsSettledOf settled job → IsBook job.book → IsSystemOf job.book system → HaveSigns system.relations
+pub signs-for : (settled : SettledInputs) (job : ClassifiedJob) (system : System) → IsOneOrTwoWay settled.inputs.records.trees settled.inputs.described.bound.tables → IsSettledOf settled job → IsBook job.book → IsSystemOf job.book system → HaveSigns system.relations
 signs-for settled job system shape is_job is_book is_system =
     one_or_two_way_has_signs job.book system
     (subst (λ (trees : List Tree). IsOneOrTwoWay trees job.book.tables) (sym is_job.book.trees)
     (subst (λ (tables : List (List ℕ)). IsOneOrTwoWay settled.inputs.records.trees tables) (sym is_job.book.tables) shape)) is_book is_system
 
 -- what protecting the cells of a job comes to is what its settled inputs come to
-pub protection-for : (settled : SettledInputs) (job : SettledJob) (system : System) (protection : ProtectionOutcome) → job_base job.described ≡ None → IsSettledOf settled job → IsBook job.book → IsSystemOf job.book system
+pub protection-for : (settled : SettledInputs) (job : ClassifiedJob) (system : System) (protection : ProtectionOutcome) → job_base job.described ≡ None → IsSettledOf settled job → IsBook job.book → IsSystemOf job.book system
     → IsProtectionOf (protected_case system job.cells) (prices_of job.described.job.cost job.cells job.book.marks) job.described.job.method (trail_of job.book job.cells job.described.job.cost (passes_of job.described.job.method)) job.described.job.steps protection
     → IsProtectionFor settled protection
 protection-for settled job system protection hides is_job is_book is_system is = record {
@@ -91,7 +91,7 @@ pub stopped-comes : (settled : SettledInputs) (stopped : Stopped) → IsProtecti
 stopped-comes settled stopped is = stuck-comes settled stopped.fault stopped.repairs stopped.shown None is
 
 -- the same, where the cells are read through a slice
-pub outcome-for : (settled : SettledInputs) (job : SettledJob) (system : System) (cells : List Cell) (one other : ProtectionOutcome) → job_base job.described ≡ None → IsSettledOf settled job → IsBook job.book → IsSystemOf job.book system → cells ≡ job.cells → one ≡ other
+pub outcome-for : (settled : SettledInputs) (job : ClassifiedJob) (system : System) (cells : List Cell) (one other : ProtectionOutcome) → job_base job.described ≡ None → IsSettledOf settled job → IsBook job.book → IsSystemOf job.book system → cells ≡ job.cells → one ≡ other
     → IsProtectionOf (protected_case system cells) (prices_of job.described.job.cost cells job.book.marks) job.described.job.method (trail_of job.book cells job.described.job.cost (passes_of job.described.job.method)) job.described.job.steps one
     → IsProtectionFor settled other
 outcome-for settled job system cells one other hides is_job is_book is_system same is_other is =
@@ -146,7 +146,7 @@ as-many-primary (cell ∷ cells) = elim (is_primary cell.kind) as (λ b. length 
     ]
 
 -- the numbers of a job are those of its settled inputs
-pub numbers-are : (settled : SettledInputs) (job : SettledJob) (all : List Cell) (count primary : ℕ) → IsSettledOf settled job
+pub numbers-are : (settled : SettledInputs) (job : ClassifiedJob) (all : List Cell) (count primary : ℕ) → IsSettledOf settled job
     → count ≡ length (cells_in job.book) → all ≡ job.cells → primary ≡ length (filter (λ (cell : Cell). is_primary cell.kind) all)
     → summary job.records job.skipped job.described.meta.passed_over count primary 0 ≡ summary_of settled 0
 numbers-are settled job all count primary is counted same primaries =
@@ -165,15 +165,15 @@ with-hidden settled numbers counted hidden is same = ap (λ (s : Summary). recor
 -- ---- a suppressed release
 
 -- a job names the file for contributors that its settled inputs name
-pub same-contributors : (settled : SettledInputs) (job : SettledJob) → IsSettledOf settled job → settled.inputs.described.job.contributors ≡ job.described.job.contributors
+pub same-contributors : (settled : SettledInputs) (job : ClassifiedJob) → IsSettledOf settled job → settled.inputs.described.job.contributors ≡ job.described.job.contributors
 same-contributors settled job is = ap (λ (d : DescribedJob). d.job.contributors) (sym is.described)
 
 -- a release of a job that hides, by the file for contributors that it names
-pub hiding-comes : (settled : SettledInputs) (job : SettledJob) (named : Option OutputLine) (release : Release) → job_base job.described ≡ None → job.described.job.contributors ≡ named → IsSettledOf settled job → IsHidingRelease named settled release → ComesToRelease settled (Ok release)
+pub hiding-comes : (settled : SettledInputs) (job : ClassifiedJob) (named : Option OutputLine) (release : Release) → job_base job.described ≡ None → job.described.job.contributors ≡ named → IsSettledOf settled job → IsHidingRelease named settled release → ComesToRelease settled (Ok release)
 hiding-comes settled job named release hides is_named is_of is =
     subst (λ (base : Option ℤ). IsReleaseBy base settled release) (sym (same-base settled job is_of ∙ hides))
     (subst (λ (line : Option OutputLine). IsHidingRelease line settled release) (sym (same-contributors settled job is_of ∙ is_named)) is)
 
 -- a hidden set that protects makes a suppressed release
-pub suppressed-comes : (settled : SettledInputs) (job : SettledJob) (release : Release) → job_base job.described ≡ None → job.described.job.contributors ≡ None → IsSettledOf settled job → IsSuppressedRelease settled release → ComesToRelease settled (Ok release)
+pub suppressed-comes : (settled : SettledInputs) (job : ClassifiedJob) (release : Release) → job_base job.described ≡ None → job.described.job.contributors ≡ None → IsSettledOf settled job → IsSuppressedRelease settled release → ComesToRelease settled (Ok release)
 suppressed-comes settled job release hides unnamed is_of is = hiding-comes settled job None release hides unnamed is_of is

@@ -31,9 +31,9 @@ use Rattle.rounding.specs.Tasks.{IsProper}
 use Rattle.rounding.specs.declared.fault.RoundFault.{RoundFault}
 use Rattle.rounding.specs.declared.fault.RoundFault.TheVariants as round
 use Rattle.job_inputs.specs.Cells.{cells}
-use Rattle.job_inputs.specs.SettledJobs.{SettledInputs, IsSettledOf}
+use Rattle.job_inputs.specs.ClassifiedJobs.{SettledInputs, IsSettledOf}
 use Rattle.job_inputs.specs.declared.described.DescribedJob.{DescribedJob}
-use Rattle.job_inputs.specs.declared.settled.SettledJob.{SettledJob}
+use Rattle.job_inputs.specs.declared.settled.ClassifiedJob.{ClassifiedJob}
 use Rattle.job_run.specs.Books.{CanBeReleased}
 use Rattle.job_run.specs.Endings.{IsReleaseBy}
 use Rattle.job_run.specs.Releases.{puts_of, summary_of, value_in}
@@ -83,7 +83,7 @@ within-limits (mark ∷ marks) all =
     (within-limits marks (All-tail (λ (one : Mark). IsTruth one.facts.truth) mark marks all))
 
 -- the truths of a job that rounds can be rounded to its base
-pub task-proper : (job : SettledJob) (system : System) (base : ℤ) (truths : List ℤ) → CanBeReleased job → job_base job.described ≡ Some base → IsSystemOf job.book system → HoldOn (truth_at job.book.marks) system.relations
+pub task-proper : (job : ClassifiedJob) (system : System) (base : ℤ) (truths : List ℤ) → CanBeReleased job → job_base job.described ≡ Some base → IsSystemOf job.book system → HoldOn (truth_at job.book.marks) system.relations
     → truths ≡ map (λ (cell : Cell). cell.truth) job.cells → IsProper system truths base
 task-proper job system base truths can rounds is holds listed =
     let same = can.ready.truths ∙ sym listed in
@@ -97,7 +97,7 @@ task-proper job system base truths can rounds is holds listed =
     }
 
 -- the same, where relations hold on the truths of records
-pub job-proper : (job : SettledJob) (system : System) (base : ℤ) (truths : List ℤ) → CanBeReleased job → job_base job.described ≡ Some base → IsSystemOf job.book system
+pub job-proper : (job : ClassifiedJob) (system : System) (base : ℤ) (truths : List ℤ) → CanBeReleased job → job_base job.described ≡ Some base → IsSystemOf job.book system
     → ((rows : List Row) → All (IsCoded job.book.trees) rows → HaveNoChildren job.book.trees rows → AreTruths job.book rows → HoldOn (truth_at job.book.marks) system.relations)
     → truths ≡ map (λ (cell : Cell). cell.truth) job.cells → IsProper system truths base
 job-proper job system base truths can rounds is holds listed =
@@ -109,30 +109,30 @@ job-proper job system base truths can rounds is holds listed =
 -- ---- what the search comes to
 
 -- a job that rounds, with the system of its book and the list of its truths
-pub record IsTask (settled : SettledInputs) (job : SettledJob) (system : System) (base : ℤ) (truths : List ℤ) : Type 0 where
+pub record IsTask (settled : SettledInputs) (job : ClassifiedJob) (system : System) (base : ℤ) (truths : List ℤ) : Type 0 where
   pub can : CanBeReleased job
   pub rounds : job_base job.described ≡ Some base
   pub is_of : IsSettledOf settled job
   pub is_system : IsSystemOf job.book system
   pub listed : truths ≡ map (λ (cell : Cell). cell.truth) job.cells
 
-its-base : (settled : SettledInputs) (job : SettledJob) (system : System) (base : ℤ) (truths : List ℤ) → IsTask settled job system base truths → job_base settled.inputs.described ≡ Some base
+its-base : (settled : SettledInputs) (job : ClassifiedJob) (system : System) (base : ℤ) (truths : List ℤ) → IsTask settled job system base truths → job_base settled.inputs.described ≡ Some base
 its-base settled job system base truths task = same-base settled job task.is_of ∙ task.rounds
 
-its-system : (settled : SettledInputs) (job : SettledJob) (system : System) (base : ℤ) (truths : List ℤ) → IsTask settled job system base truths → IsSystemIn settled.inputs system
+its-system : (settled : SettledInputs) (job : ClassifiedJob) (system : System) (base : ℤ) (truths : List ℤ) → IsTask settled job system base truths → IsSystemIn settled.inputs system
 its-system settled job system base truths task = (job.book, task.is_of.book, task.is_system)
 
-its-truths : (settled : SettledInputs) (job : SettledJob) (system : System) (base : ℤ) (truths : List ℤ) → IsTask settled job system base truths → truths ≡ truths_in settled.inputs
+its-truths : (settled : SettledInputs) (job : ClassifiedJob) (system : System) (base : ℤ) (truths : List ℤ) → IsTask settled job system base truths → truths ≡ truths_in settled.inputs
 its-truths settled job system base truths task = task.listed ∙ truths-are settled.inputs job.book job.cells task.is_of.book task.can.ready.truths
 
 -- so where a search stops, the job has other tables
-other-tables : (settled : SettledInputs) (job : SettledJob) (system : System) (base : ℤ) (truths : List ℤ) (fault : RoundFault) → IsTask settled job system base truths → IsBook job.book
+other-tables : (settled : SettledInputs) (job : ClassifiedJob) (system : System) (base : ℤ) (truths : List ℤ) (fault : RoundFault) → IsTask settled job system base truths → IsBook job.book
     → ((signs : List Bool) → AreSigns system.relations signs → fault ≡ round.Memory) → (fault ≡ round.Memory → ⊥) → ¬ IsAlwaysRounded settled.inputs
 other-tables settled job system base truths fault task is_book signed no_memory shape =
     let signs = signs-for settled job system shape task.is_of is_book task.is_system in
     no_memory (signed signs.0 signs.1)
 
-no-rounding : (settled : SettledInputs) (job : SettledJob) (system : System) (base : ℤ) (truths : List ℤ) → IsTask settled job system base truths → ((values : List ℤ) → IsRounding system truths base values → ⊥) → ¬ IsAlwaysRounded settled.inputs → HasNoRounding settled
+no-rounding : (settled : SettledInputs) (job : ClassifiedJob) (system : System) (base : ℤ) (truths : List ℤ) → IsTask settled job system base truths → ((values : List ℤ) → IsRounding system truths base values → ⊥) → ¬ IsAlwaysRounded settled.inputs → HasNoRounding settled
 no-rounding settled job system base truths task none more = record {
   more = more;
   base = base;
@@ -143,7 +143,7 @@ no-rounding settled job system base truths task none more = record {
       (rounding-elsewhere settled.inputs found.system system (truths_in settled.inputs) base values found.system_is (its-system settled job system base truths task) found.rounding));
 }
 
-search-stops : (settled : SettledInputs) (job : SettledJob) (system : System) (base : ℤ) (truths : List ℤ) (nodes : ℕ) → IsTask settled job system base truths → nodes ≡ job.described.job.nodes → Stops system truths base nodes → ¬ IsAlwaysRounded settled.inputs → SearchStops settled nodes
+search-stops : (settled : SettledInputs) (job : ClassifiedJob) (system : System) (base : ℤ) (truths : List ℤ) (nodes : ℕ) → IsTask settled job system base truths → nodes ≡ job.described.job.nodes → Stops system truths base nodes → ¬ IsAlwaysRounded settled.inputs → SearchStops settled nodes
 search-stops settled job system base truths nodes task limit stops more = record {
   more = more;
   base = base;
@@ -155,7 +155,7 @@ search-stops settled job system base truths nodes task limit stops more = record
 }
 
 -- a search that gives no rounding stops the run
-pub search-comes : (settled : SettledInputs) (job : SettledJob) (system : System) (base : ℤ) (truths : List ℤ) (fault : RoundFault) → IsTask settled job system base truths
+pub search-comes : (settled : SettledInputs) (job : ClassifiedJob) (system : System) (base : ℤ) (truths : List ℤ) (fault : RoundFault) → IsTask settled job system base truths
     → (fault ≡ round.NoRounding → (values : List ℤ) → IsRounding system truths base values → ⊥)
     → ((nodes : ℕ) → fault ≡ round.Nodes nodes → (nodes ≡ job.described.job.nodes) × Stops system truths base nodes)
     → IsBook job.book → ((signs : List Bool) → AreSigns system.relations signs → fault ≡ round.Memory)
@@ -174,7 +174,7 @@ search-comes settled job system base truths round.Memory task none limit is_book
 pub empty-spellable : (method : Method) (cells relations : ℕ) → IsSpellable (without_hidden_cells method cells relations)
 empty-spellable method cells relations = record { hidden = refl; steps = tt; repairs = tt; needs = tt; worlds = tt }
 
-certificate-is : (settled : SettledInputs) (job : SettledJob) (system : System) (base : ℤ) (truths : List ℤ) → IsTask settled job system base truths
+certificate-is : (settled : SettledInputs) (job : ClassifiedJob) (system : System) (base : ℤ) (truths : List ℤ) → IsTask settled job system base truths
     → without_hidden_cells job.described.job.method system.cells (length system.relations) ≡ rounded_certificate settled.inputs
 certificate-is settled job system base truths task =
     let is = its-system settled job system base truths task in
@@ -184,7 +184,7 @@ certificate-is settled job system base truths task =
     (sym (length-map system.relations sum_in) ∙ ap length (its-relations settled.inputs system is))
 
 -- a rounding makes a rounded release
-pub rounded-comes : (settled : SettledInputs) (job : SettledJob) (system : System) (base : ℤ) (truths values : List ℤ) (certificate : Certificate) (release : Release) → IsTask settled job system base truths → release.certificate ≡ certificate
+pub rounded-comes : (settled : SettledInputs) (job : ClassifiedJob) (system : System) (base : ℤ) (truths values : List ℤ) (certificate : Certificate) (release : Release) → IsTask settled job system base truths → release.certificate ≡ certificate
     → IsRounding system truths base values → certificate ≡ without_hidden_cells job.described.job.method system.cells (length system.relations) → certificate_of (text_of certificate) ≡ Ok certificate
     → release.puts ≡ puts_of settled.inputs (value_in settled.inputs values) certificate → release.summary ≡ summary_of settled 0 → ComesToRelease settled (Ok release)
 rounded-comes settled job system base truths values certificate release task given rounding is read puts numbers =

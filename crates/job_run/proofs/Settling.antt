@@ -4,7 +4,7 @@ use Rattle.sdc_base.specs.Counts.{count_after}
 use Rattle.office_io.specs.Files.{Files}
 use Rattle.office_io.specs.Trays.{TrayState}
 use Rattle.job_inputs.specs.declared.file_ref.FileRef.{FileRef}
-use Rattle.job_inputs.specs.SettledJobs.{SettledInputs, settled_of}
+use Rattle.job_inputs.specs.ClassifiedJobs.{SettledInputs, settled_of}
 use Rattle.job_inputs.specs.SoundJobs.{AreSound, IsSoundJob}
 use Rattle.job_inputs.specs.declared.described.DescribedJob.{DescribedJob}
 use Rattle.job_inputs.specs.declared.purpose.Purpose.TheVariants as purpose

@@ -5,13 +5,13 @@ use Rattle.sdc_base.specs.Counts.{HasRisen}
 use Rattle.sdc_base.specs.WhereTold.{WhereTold}
 use Rattle.office_io.specs.Shelves.{ShelfState}
 use Rattle.office_io.specs.Trays.{TrayState, HasPut, HasPutInPart}
-use Rattle.job_inputs.specs.Reading.{HasComeTo}
-use Rattle.job_inputs.specs.SettledJobs.{HasOnlyLookedOn}
+use Rattle.job_inputs.specs.Reading.{ReachedFile}
+use Rattle.job_inputs.specs.ClassifiedJobs.{HasOnlyLookedOn}
 use Rattle.job_inputs.specs.declared.faults.Fault.{Fault}
 use Rattle.job_inputs.specs.declared.file_ref.FileRef.TheVariants as file
 use Rattle.job_audit.specs.Finding.{AreRefusedFor, IsFileOf, IsUndecidedFor}
 use Rattle.job_inputs.specs.declared.purpose.Purpose.TheVariants.{Audit}
-use Rattle.shelved_tables.specs.TablesOnShelf.{ShelvedTables, shelved_for, ComesFor}
+use Rattle.published_tables.specs.TablesOnShelf.{ShelvedTables, shelved_for, ComesFor}
 use Rattle.job_audit.specs.declared.audit_file.AuditFile.{AuditFile}
 use Rattle.job_run.specs.Puts.{HasAtMostOnePut}
 use Rattle.job_run.specs.Reporting.{IsQuestionReport}
@@ -92,7 +92,7 @@ pub record IsAuditRunOf (name out : List ℕ) (answer : Report) (old new : Shelf
   pub left : WhereTold old.files (λ fs. AuditLeaves answer (shelved_for Audit fs name out) out before after)
   pub complete : WhereTold old.files (λ fs. ¬ HasRisen old.faults new.faults → ¬ HasRisen before.faults after.faults
       → SettlesAudit answer (shelved_for Audit fs name out))
-  pub came_to : WhereTold old.files (λ fs. HasComeTo (ComesFor Audit fs name out) (reading_of answer) fs new)
+  pub came_to : WhereTold old.files (λ fs. ReachedFile (ComesFor Audit fs name out) (reading_of answer) fs new)
   pub one_put : (primary exposed : ℕ) → answer ≡ report.Audited primary exposed
       → (bytes : List ℕ) × HasPut out bytes before after
   pub at_most_one_put : HasAtMostOnePut out before after

@@ -8,12 +8,12 @@ use Rattle.modular_plan.specs.Plans.{IsSameButHidden}
 use Rattle.release_writer.specs.ShownCells.{CanBeShown}
 use Rattle.release_writer.specs.declared.shown.Shown.{Shown}
 use Rattle.release_writer.specs.declared.shown.Shown.TheVariants as shown
-use Rattle.job_inputs.specs.SettledJobs.{SettledInputs, IsReadyJob, IsSettledOf}
+use Rattle.job_inputs.specs.ClassifiedJobs.{SettledInputs, IsReadyJob, IsSettledOf}
 use Rattle.job_inputs.specs.SoundJobs.{AreSound, IsSoundJob}
 use Rattle.job_inputs.specs.TabulatedBooks.{IsReadyFor}
 use Rattle.job_inputs.specs.declared.described.DescribedJob.{DescribedJob}
 use Rattle.job_inputs.specs.declared.inputs.Inputs.{Inputs}
-use Rattle.job_inputs.specs.declared.settled.SettledJob.{SettledJob}
+use Rattle.job_inputs.specs.declared.settled.ClassifiedJob.{ClassifiedJob}
 use Rattle.job_run.specs.Releases.{shown_in, value_in, put_of_table, tables_from}
 use Rattle.job_lang.specs.declared.job.Job.{Job}
 use Rattle.job_lang.specs.declared.job.TableLine.{TableLine}
@@ -21,7 +21,7 @@ use Rattle.job_lang.specs.declared.job.OutputLine.{OutputLine}
 use Rattle.job_run.specs.declared.put.FilePut.{FilePut}
 
 -- the job of these parts, with so many records read and so many skipped
-abbrev pub job_of : DescribedJob → BookView → List Cell → List Row → ℕ → ℕ → SettledJob
+abbrev pub job_of : DescribedJob → BookView → List Cell → List Row → ℕ → ℕ → ClassifiedJob
 job_of described book cells rows records skipped = record {
   described = described;
   book = book;
@@ -32,13 +32,13 @@ job_of described book cells rows records skipped = record {
 }
 
 -- the job is that of settled inputs, and all that was read for these is within its limits
-pub record IsOfInputs (job : SettledJob) : Type 0 where
+pub record IsOfInputs (job : ClassifiedJob) : Type 0 where
   pub settled : SettledInputs
   pub is_of : IsSettledOf settled job
   pub sound : AreSound settled.inputs
 
 -- the job has what a release wants of it
-pub record CanBeReleased (job : SettledJob) : Type 0 where
+pub record CanBeReleased (job : ClassifiedJob) : Type 0 where
   pub ready : IsReadyJob job
   pub inputs : IsOfInputs job
 

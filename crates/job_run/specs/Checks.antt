@@ -8,8 +8,8 @@ use Rattle.job_check.specs.Answers.{IsRightRelease, IsFaultyRelease}
 use Rattle.job_check.specs.Reading.{ReleaseComesTo}
 use Rattle.job_check.specs.ReleaseFiles.{ReleasedFiles, released_of}
 use Rattle.job_check.specs.declared.flaw.Flaw.TheVariants as flaw
-use Rattle.job_inputs.specs.Reading.{HasComeTo}
-use Rattle.job_inputs.specs.SettledJobs.{HasOnlyLookedOn}
+use Rattle.job_inputs.specs.Reading.{ReachedFile}
+use Rattle.job_inputs.specs.ClassifiedJobs.{HasOnlyLookedOn}
 use Rattle.job_inputs.specs.declared.faults.Fault.{Fault}
 use Rattle.job_inputs.specs.declared.purpose.Purpose.TheVariants.{Release}
 use Rattle.job_run.specs.Reports.{reading_of}
@@ -59,6 +59,6 @@ pub record IsCheckOf (name : List ℕ) (answer : Report) (old new : ShelfState) 
   pub told : WhereTold old.files (λ fs. MeetsCheck answer (released_of fs name))
   pub complete : WhereTold old.files (λ fs. ¬ HasRisen old.faults new.faults
       → SettlesCheck answer (released_of fs name))
-  pub came_to : WhereTold old.files (λ fs. HasComeTo (ReleaseComesTo fs name) (reading_of answer) fs new)
+  pub came_to : WhereTold old.files (λ fs. ReachedFile (ReleaseComesTo fs name) (reading_of answer) fs new)
   pub untouched : after ≡ before
   pub shelf : HasOnlyLookedOn Release name old new

@@ -5,7 +5,7 @@ use Rattle.interval_audit.specs.declared.answer.AskFault.{AskFault}
 use Rattle.interval_audit.specs.declared.answer.AskFault.TheVariants as ask
 use Rattle.job_lang.specs.declared.job.OutputLine.{OutputLine}
 use Rattle.worlds.specs.declared.refuted.Refuted.{Refuted}
-use Rattle.job_inputs.specs.SettledJobs.{SettledInputs}
+use Rattle.job_inputs.specs.ClassifiedJobs.{SettledInputs}
 use Rattle.job_run.specs.GuardedReleases.{IsGuardedRelease, GuardStopsShort}
 use Rattle.job_run.specs.Protections.{IsSuppressedRelease, ProtectionStopsShort}
 use Rattle.job_run.specs.Roundings.{job_base, IsReleaseOfRounding, SearchStops}

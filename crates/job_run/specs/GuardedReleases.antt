@@ -9,11 +9,11 @@ use Rattle.certificate.specs.Texts.{text_of}
 use Rattle.certificate.specs.declared.certificate.Certificate.{Certificate}
 use Rattle.certificate.specs.declared.extra.Extra.{Extra}
 use Rattle.attackers.specs.declared.extra.Against.{Against}
-use Rattle.cell_guards.specs.Guards.{IsGuardOf}
-use Rattle.cell_guards.specs.WholeOutcomes.{IsWholeOutcome}
-use Rattle.cell_guards.specs.declared.guarding.GuardedCells.{GuardedCells}
-use Rattle.cell_guards.specs.declared.guarding.Unguarded.{Unguarded}
-use Rattle.cell_guards.specs.declared.guarding.Unguarded.TheVariants as unguarded
+use Rattle.contributor_protection.specs.Guards.{IsGuardOf}
+use Rattle.contributor_protection.specs.WholeOutcomes.{IsWholeOutcome}
+use Rattle.contributor_protection.specs.declared.guarding.GuardedCells.{GuardedCells}
+use Rattle.contributor_protection.specs.declared.guarding.GuardFailure.{GuardFailure}
+use Rattle.contributor_protection.specs.declared.guarding.GuardFailure.TheVariants as guard_failure
 use Rattle.cell_protection.specs.declared.protection.ProtectionOutcome.TheVariants as protection
 use Rattle.interval_audit.specs.declared.answer.AskFault.{AskFault}
 use Rattle.relations.specs.TableSigns.{IsOneOrTwoWay}
@@ -22,7 +22,7 @@ use Rattle.worlds.specs.Protection.{Protection as HiddenSet}
 use Rattle.worlds.specs.declared.multipliers.Multipliers.{Multipliers}
 use Rattle.worlds.specs.declared.refuted.Refuted.{Refuted}
 use Rattle.job_lang.specs.declared.job.OutputLine.{OutputLine}
-use Rattle.job_inputs.specs.SettledJobs.{SettledInputs}
+use Rattle.job_inputs.specs.ClassifiedJobs.{SettledInputs}
 use Rattle.job_inputs.specs.declared.file_ref.FileRef.TheVariants as file
 use Rattle.job_inputs.specs.declared.inputs.Inputs.{Inputs}
 use Rattle.job_run.specs.Protections.{IsProtectionFor}
@@ -34,7 +34,7 @@ use Rattle.job_run.specs.declared.put.Release.{Release}
 -- against those whose one record makes up a cell comes to this, with the same system, prices and steps. It is in whole
 -- units where the job has one table of one variable, or of two flat ones.
 pub record IsGuardFor (settled : SettledInputs) (hidden_set : HiddenSet) (certificate : Certificate)
-    (outcome : Result GuardedCells Unguarded) : Type 0 where
+    (outcome : Result GuardedCells GuardFailure) : Type 0 where
   pub line : OutputLine
   pub named : settled.inputs.described.job.contributors ≡ Some line
   pub protects : IsProtectionFor settled (protection.Protected hidden_set certificate)
@@ -49,7 +49,7 @@ pub record HasNoGuard (settled : SettledInputs) (row cell : ℕ) (side : Side) (
     : Type 0 where
   pub hidden_set : HiddenSet
   pub certificate : Certificate
-  pub guards : IsGuardFor settled hidden_set certificate (Err (unguarded.CannotAgainst
+  pub guards : IsGuardFor settled hidden_set certificate (Err (guard_failure.CannotAgainst
       (record { attack = record { row = row; cell = cell; side = side }; multipliers = multipliers })))
 
 -- guarding settled inputs stops short at a question against a contributor, of a hidden set with these repairs and
@@ -59,7 +59,7 @@ pub record GuardStopsShort (settled : SettledInputs) (fault : AskFault) (repairs
   pub hidden_set : HiddenSet
   pub certificate : Certificate
   pub guards : IsGuardFor settled hidden_set certificate
-      (Err (unguarded.Undecided (record { fault = fault; repairs = repairs; shown = shown }) against))
+      (Err (guard_failure.Undecided (record { fault = fault; repairs = repairs; shown = shown }) against))
 
 -- how many cells a set hides
 abbrev pub count_hidden : List Bool → ℕ

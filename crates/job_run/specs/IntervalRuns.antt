@@ -4,13 +4,13 @@ use Rattle.sdc_base.specs.Counts.{HasRisen}
 use Rattle.sdc_base.specs.WhereTold.{WhereTold}
 use Rattle.office_io.specs.Shelves.{ShelfState}
 use Rattle.office_io.specs.Trays.{TrayState, HasPut, HasPutInPart}
-use Rattle.job_inputs.specs.Reading.{HasComeTo}
-use Rattle.job_inputs.specs.SettledJobs.{HasOnlyLookedOn}
+use Rattle.job_inputs.specs.Reading.{ReachedFile}
+use Rattle.job_inputs.specs.ClassifiedJobs.{HasOnlyLookedOn}
 use Rattle.job_inputs.specs.declared.faults.Fault.{Fault}
 use Rattle.job_inputs.specs.declared.purpose.Purpose.TheVariants as purpose
 use Rattle.job_inputs.specs.declared.file_ref.FileRef.TheVariants as file
 use Rattle.job_intervals.specs.Finding.{AreRefusedFor, IsFileOf, IsUndecidedFor}
-use Rattle.shelved_tables.specs.TablesOnShelf.{ShelvedTables, shelved_of, IntervalsComeTo}
+use Rattle.published_tables.specs.TablesOnShelf.{ShelvedTables, shelved_of, IntervalsComeTo}
 use Rattle.job_intervals.specs.declared.interval_file.IntervalFile.{IntervalFile}
 use Rattle.job_run.specs.Puts.{HasAtMostOnePut}
 use Rattle.job_run.specs.Reporting.{IsQuestionReport}
@@ -89,7 +89,7 @@ pub record IsIntervalRunOf (name out : List ℕ) (answer : Report) (old new : Sh
   pub left : WhereTold old.files (λ fs. IntervalsLeave answer (shelved_of fs name out) out before after)
   pub complete : WhereTold old.files (λ fs. ¬ HasRisen old.faults new.faults → ¬ HasRisen before.faults after.faults
       → SettlesIntervals answer (shelved_of fs name out))
-  pub came_to : WhereTold old.files (λ fs. HasComeTo (IntervalsComeTo fs name out) (reading_of answer) fs new)
+  pub came_to : WhereTold old.files (λ fs. ReachedFile (IntervalsComeTo fs name out) (reading_of answer) fs new)
   pub one_put : (cells : ℕ) → answer ≡ report.Intervals cells → (bytes : List ℕ) × HasPut out bytes before after
   pub at_most_one_put : HasAtMostOnePut out before after
   pub shelf : HasOnlyLookedOn purpose.Intervals name old new

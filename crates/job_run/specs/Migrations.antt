@@ -13,7 +13,7 @@ use Rattle.office_io.specs.Trays.{TrayState, HasPut, HasPutInPart}
 use Rattle.job_inputs.specs.CertificateFile.{certificate_in}
 use Rattle.job_inputs.specs.Looks.{IsFile}
 use Rattle.job_inputs.specs.ReadFiles.{output_limit}
-use Rattle.job_inputs.specs.Reading.{HasComeTo, HasOnlyLooked}
+use Rattle.job_inputs.specs.Reading.{ReachedFile, HasOnlyLooked}
 use Rattle.job_inputs.specs.declared.faults.Fault.{Fault}
 use Rattle.job_inputs.specs.declared.faults.Fault.TheVariants as fault
 use Rattle.job_inputs.specs.declared.file_ref.FileRef.{FileRef}
@@ -89,7 +89,7 @@ pub record IsMigrationOf (old new : List ℕ) (answer : Report) (shelf shelved :
   pub left : WhereTold shelf.files (λ fs. MigrationLeaves answer (migrating_of fs old new) new before after)
   pub complete : WhereTold shelf.files (λ fs. ¬ HasRisen shelf.faults shelved.faults
       → ¬ HasRisen before.faults after.faults → SettlesMigration answer (migrating_of fs old new))
-  pub came_to : WhereTold shelf.files (λ fs. HasComeTo (MigrationComesTo old new) (reading_of answer) fs shelved)
+  pub came_to : WhereTold shelf.files (λ fs. ReachedFile (MigrationComesTo old new) (reading_of answer) fs shelved)
   pub one_put : answer ≡ report.Migrated → (certificate : Certificate)
       × IsPutAgain certificate new report.Migrated before after
   pub at_most_one_put : HasAtMostOnePut new before after

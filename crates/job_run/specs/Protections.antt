@@ -7,7 +7,7 @@ use Rattle.sdc_base.specs.declared.system.System.{System}
 use Rattle.certificate.specs.Certificates.{certificate_of}
 use Rattle.certificate.specs.Texts.{text_of}
 use Rattle.certificate.specs.declared.certificate.Certificate.{Certificate}
-use Rattle.cell_guards.specs.declared.guarding.ProtectedCells.{ProtectedCells}
+use Rattle.contributor_protection.specs.declared.guarding.ProtectedCells.{ProtectedCells}
 use Rattle.cell_protection.specs.Protections.{IsProtectionOf}
 use Rattle.cell_protection.specs.WholeProtections.{IsWholeProtection}
 use Rattle.modular_plan.specs.Methods.{passes_of}
@@ -18,9 +18,9 @@ use Rattle.modular_plan.specs.Plans.{IsSameButHidden, trail_of}
 use Rattle.repair.specs.HidingOrder.{protected_case, prices_of}
 use Rattle.worlds.specs.Protection.{Protection as HiddenSet}
 use Rattle.worlds.specs.declared.refuted.Refuted.{Refuted}
-use Rattle.job_inputs.specs.SettledJobs.{SettledInputs, IsSettledOf}
+use Rattle.job_inputs.specs.ClassifiedJobs.{SettledInputs, IsSettledOf}
 use Rattle.job_inputs.specs.declared.described.DescribedJob.{DescribedJob}
-use Rattle.job_inputs.specs.declared.settled.SettledJob.{SettledJob}
+use Rattle.job_inputs.specs.declared.settled.ClassifiedJob.{ClassifiedJob}
 use Rattle.linked_tables.specs.BookCells.{IsBook}
 use Rattle.linked_tables.specs.BookViews.{BookView}
 use Rattle.relations.specs.Holding.{IsSystemOf}
@@ -35,7 +35,7 @@ use Rattle.job_run.specs.declared.put.Release.{Release}
 -- whole units where the job has one table of one variable, or of two flat ones.
 pub record IsProtectionFor (settled : SettledInputs) (protection : ProtectionOutcome) : Type 0 where
   pub hides : job_base settled.inputs.described ≡ None
-  pub job : SettledJob
+  pub job : ClassifiedJob
   pub system : System
   pub job_is : IsSettledOf settled job
   pub system_is : IsSystemOf job.book system

@@ -6,8 +6,8 @@ use Rattle.office_io.specs.Shelves.{ShelfState}
 use Rattle.office_io.specs.Trays.{TrayState}
 use Rattle.job_inputs.specs.Looks.{InputsComeTo}
 use Rattle.job_inputs.specs.ReadFiles.{limit}
-use Rattle.job_inputs.specs.Reading.{HasComeTo, HasOnlyLooked}
-use Rattle.job_inputs.specs.SettledJobs.{settled_of}
+use Rattle.job_inputs.specs.Reading.{ReachedFile, HasOnlyLooked}
+use Rattle.job_inputs.specs.ClassifiedJobs.{settled_of}
 use Rattle.job_inputs.specs.declared.purpose.Purpose.TheVariants as purpose
 use Rattle.job_run.specs.PutReleases.{Releases, PutsOnce}
 use Rattle.job_run.specs.Reports.{IsReleaseAnswer, AgreesWith, LeavesTray, AnswersExactly, reading_of}
@@ -29,6 +29,7 @@ pub record IsReleaseRunOf (name : List ℕ) (answer : Report) (old new : ShelfSt
       → Releases fs name summary before after)
   pub complete : WhereTold old.files (λ fs. ¬ HasRisen old.faults new.faults → ¬ HasRisen before.faults after.faults
       → AnswersExactly answer (settled_of purpose.Release fs name))
-  pub came_to : WhereTold old.files (λ fs. HasComeTo (InputsComeTo purpose.Release fs name) (reading_of answer) fs new)
+  pub came_to : WhereTold old.files
+      (λ fs. ReachedFile (InputsComeTo purpose.Release fs name) (reading_of answer) fs new)
   pub put_once : PutsOnce answer before after
   pub shelf : HasOnlyLooked limit old new

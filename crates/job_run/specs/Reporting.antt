@@ -1,8 +1,8 @@
 -- How a run reports what stopped one of its steps (own).
 use Rattle.std.specs.Prelude.{◌≡◌, ℕ, List, [], Option, None, Some}
 use Rattle.attackers.specs.declared.extra.Against.{Against}
-use Rattle.cell_guards.specs.declared.guarding.Unguarded.{Unguarded}
-use Rattle.cell_guards.specs.declared.guarding.Unguarded.TheVariants as unguarded
+use Rattle.contributor_protection.specs.declared.guarding.GuardFailure.{GuardFailure}
+use Rattle.contributor_protection.specs.declared.guarding.GuardFailure.TheVariants as guard_failure
 use Rattle.interval_audit.specs.declared.answer.AskFault.{AskFault}
 use Rattle.interval_audit.specs.declared.answer.AskFault.TheVariants as ask
 use Rattle.repair.specs.declared.stopped.Stopped.{Stopped}
@@ -46,12 +46,12 @@ abbrev pub stopped_report : Stopped → Report
 stopped_report stopped = stuck_report stopped.fault stopped.repairs stopped.shown None
 
 -- why a hidden set isn't guarded
-abbrev pub unguarded_report : Unguarded → Report
-unguarded_report (unguarded.CannotAgainst found) =
+abbrev pub guard_failure_report : GuardFailure → Report
+guard_failure_report (guard_failure.CannotAgainst found) =
     report.CannotAgainst found.attack.row found.attack.cell found.attack.side found.multipliers
-unguarded_report (unguarded.Undecided stopped against) =
+guard_failure_report (guard_failure.Undecided stopped against) =
     stuck_report stopped.fault stopped.repairs stopped.shown (Some against)
-unguarded_report unguarded.Memory = report.Memory
+guard_failure_report guard_failure.Memory = report.Memory
 
 -- a search for a rounding that found none, which repairs nothing and shows no cells again
 abbrev pub search_report : RoundFault → Report

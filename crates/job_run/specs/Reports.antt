@@ -5,9 +5,9 @@ use Rattle.cell_protection.specs.declared.protection.ProtectionOutcome.TheVarian
 use Rattle.office_io.specs.Shelves.{ShelfState}
 use Rattle.office_io.specs.Trays.{TrayState}
 use Rattle.job_inputs.specs.Reading.{HasCause}
-use Rattle.job_inputs.specs.SettledJobs.{SettledInputs, IsSettledOf}
+use Rattle.job_inputs.specs.ClassifiedJobs.{SettledInputs, IsSettledOf}
 use Rattle.job_inputs.specs.declared.file_ref.FileRef.{FileRef}
-use Rattle.job_inputs.specs.declared.settled.SettledJob.{SettledJob}
+use Rattle.job_inputs.specs.declared.settled.ClassifiedJob.{ClassifiedJob}
 use Rattle.job_run.specs.Endings.{IsReleaseOf, IsUndecided}
 use Rattle.job_run.specs.GuardedReleases.{HasNoGuard}
 use Rattle.job_run.specs.Protections.{IsProtectionFor}
@@ -65,7 +65,7 @@ ComesToRelease settled (Ok release) = IsReleaseOf settled release
 ComesToRelease settled (Err end) = IsEndWithoutRelease end × AgreesWith end (Ok settled)
 
 -- settled inputs of this job, whose numbers are these while no cell is hidden, come to this
-abbrev pub JobComesToRelease : SettledJob → Summary → Result Release Report → Type 0
+abbrev pub JobComesToRelease : ClassifiedJob → Summary → Result Release Report → Type 0
 JobComesToRelease job unhidden result =
     (settled : SettledInputs) → IsSettledOf settled job → unhidden ≡ summary_of settled 0
     → ComesToRelease settled result

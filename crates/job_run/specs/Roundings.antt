@@ -14,7 +14,7 @@ use Rattle.relations.specs.Holding.{IsSystemOf}
 use Rattle.relations.specs.TableSigns.{IsOneOrTwoWay}
 use Rattle.rounding.specs.Searches.{Stops}
 use Rattle.job_inputs.specs.Cells.{cells, truth_in}
-use Rattle.job_inputs.specs.SettledJobs.{SettledInputs}
+use Rattle.job_inputs.specs.ClassifiedJobs.{SettledInputs}
 use Rattle.job_inputs.specs.TabulatedBooks.{IsBookOf}
 use Rattle.job_inputs.specs.declared.described.DescribedJob.{DescribedJob}
 use Rattle.job_inputs.specs.declared.inputs.Inputs.{Inputs}

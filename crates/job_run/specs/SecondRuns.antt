@@ -7,7 +7,7 @@ use Rattle.job_lang.specs.declared.job.Job.{Job}
 use Rattle.office_io.specs.Files.{Files, told_file}
 use Rattle.office_io.specs.Shelves.{ShelfState}
 use Rattle.office_io.specs.Trays.{TrayState}
-use Rattle.job_inputs.specs.SettledJobs.{SettledInputs, settled_of}
+use Rattle.job_inputs.specs.ClassifiedJobs.{SettledInputs, settled_of}
 use Rattle.job_inputs.specs.declared.file_ref.FileRef.{FileRef}
 use Rattle.job_inputs.specs.declared.purpose.Purpose.TheVariants as purpose
 use Rattle.job_run.specs.ReleaseRuns.{IsReleaseRunOf}

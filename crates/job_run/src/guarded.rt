@@ -1,7 +1,7 @@
 ghost use Rattle.std.specs.Prelude.{◌≡◌, ◌<◌, ◌^◌, ℕ, None, Some, option_map, IfOk, length};
 ghost use Rattle.certificate.specs.Spelling.{IsSpellable};
-ghost use Rattle.cell_guards.specs.Guards.{case_of, IsCertified};
-ghost use Rattle.job_inputs.specs.SettledJobs.{IsReadyJob, IsSettledOf, SettledInputs};
+ghost use Rattle.contributor_protection.specs.Guards.{case_of, IsCertified};
+ghost use Rattle.job_inputs.specs.ClassifiedJobs.{IsReadyJob, IsSettledOf, SettledInputs};
 ghost use Rattle.job_run.specs.Books.{CanBeReleased, IsPlannedBook, job_of};
 ghost use Rattle.job_run.specs.FileCounts.{file_count};
 ghost use Rattle.job_run.specs.GuardedReleases as releases;
@@ -14,17 +14,21 @@ use crate::guarded_texts::guarded_puts;
 use crate::numbers::unhidden_summary;
 use crate::put::Release;
 use crate::report::{Report, Summary};
-use cell_guards::{ProtectedCells, guard_cells};
 use cell_protection::{ProtectionOutcome, protect_cells};
 use certificate::Certificate;
-use job_inputs::{DescribedJob, SettledJob};
+use contributor_protection::{ProtectedCells, guard_cells};
+use job_inputs::{ClassifiedJob, DescribedJob};
 use linked_tables::Book;
 use relations::relations_of;
 use sdc_base::{Cell, Row, Text};
 use std::alloc::Global;
 
 /// The release of a job that hides cells and guards them against contributors, whose file has this name.
-pub(crate) fn guarded_release(alloc: Global, job: SettledJob, name: Text) -> Result<Release, Report>
+pub(crate) fn guarded_release(
+    alloc: Global,
+    job: ClassifiedJob,
+    name: Text,
+) -> Result<Release, Report>
     requires can { CanBeReleased job }
     requires hides { roundings.job_base job.described ≡ None }
     requires named { option_map (λ line. line.file) job.described.job.contributors ≡ Some name }
@@ -32,7 +36,7 @@ pub(crate) fn guarded_release(alloc: Global, job: SettledJob, name: Text) -> Res
     ensures each_file { IfOk result (λ release. length release.puts ≡ file_count job.described.job) }
 {
     let summary = unhidden_summary(&job);
-    let SettledJob {
+    let ClassifiedJob {
         described,
         mut book,
         cells,

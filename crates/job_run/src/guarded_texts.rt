@@ -13,7 +13,7 @@ ghost use Rattle.job_run.specs.GuardedReleases as releases;
 use crate::put::FilePut;
 use crate::release_texts::{add_tables, certificate_put};
 use attackers::{Extra, write_extra};
-use cell_guards::GuardedCells;
+use contributor_protection::GuardedCells;
 use job_inputs::{DescribedJob, FileRef};
 use linked_tables::Book;
 use release_writer::Shown;

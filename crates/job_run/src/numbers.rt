@@ -1,14 +1,14 @@
 ghost use Rattle.std.specs.Prelude.{◌≡◌, ◌<◌, ◌^◌, length, filter};
 ghost use Rattle.sdc_base.specs.Kinds as kinds;
-ghost use Rattle.job_inputs.specs.SettledJobs.{IsReadyJob, IsSettledOf, SettledInputs};
+ghost use Rattle.job_inputs.specs.ClassifiedJobs.{IsReadyJob, IsSettledOf, SettledInputs};
 ghost use Rattle.job_run.specs.Releases.{summary_of};
 
 use crate::report::Summary;
-use job_inputs::SettledJob;
+use job_inputs::ClassifiedJob;
 use sdc_base::Cell;
 
 /// The numbers of a job's release in which no cell is hidden.
-pub(crate) fn unhidden_summary(job: &SettledJob) -> Summary
+pub(crate) fn unhidden_summary(job: &ClassifiedJob) -> Summary
     requires { IsReadyJob job.now }
     ensures { (settled : SettledInputs) → IsSettledOf settled job.now → result ≡ summary_of settled 0 }
 {

@@ -6,7 +6,7 @@ ghost use Rattle.certificate.specs.Spelling.{IsSpellable};
 ghost use Rattle.certificate.specs.Texts.{text_of};
 ghost use Rattle.linked_tables.specs.BookCells.{cells as cells_in};
 ghost use Rattle.job_lang.specs.JobLimits.{IsMethod};
-ghost use Rattle.job_inputs.specs.SettledJobs.{IsSettledOf, SettledInputs};
+ghost use Rattle.job_inputs.specs.ClassifiedJobs.{IsSettledOf, SettledInputs};
 ghost use Rattle.job_inputs.specs.SoundJobs.{IsSoundJob};
 ghost use Rattle.job_inputs.specs.TabulatedBooks.{IsBookOf, IsReadyFor};
 ghost use Rattle.job_inputs.specs.declared.inputs.Inputs.{Inputs as AnyInputs};
@@ -24,7 +24,7 @@ use crate::report::{Report, Summary};
 use crate::rounded::rounded_release;
 use cell_protection::{ProtectionOutcome, protect_cells};
 use certificate::Certificate;
-use job_inputs::{DescribedJob, SettledJob, base_in_units};
+use job_inputs::{ClassifiedJob, DescribedJob, base_in_units};
 use linked_tables::Book;
 use relations::relations_of;
 use release_writer::Shown;
@@ -36,7 +36,7 @@ use worlds::Protected;
 /// names a file for contributors; and the certificate, that file and the tables are made, with the numbers of the
 /// release. Else why there is none: a cell that can't be protected or guarded, that there is no rounding, a question or
 /// a search that stopped short, or want of memory.
-pub(crate) fn release_for(alloc: Global, job: SettledJob) -> Result<Release, Report>
+pub(crate) fn release_for(alloc: Global, job: ClassifiedJob) -> Result<Release, Report>
     requires { CanBeReleased job }
     ensures comes { (settled : SettledInputs) → IsSettledOf settled job → ComesToRelease settled result }
     ensures each_file { IfOk result (λ release. length release.puts ≡ file_count job.described.job) }
@@ -61,7 +61,7 @@ fn job_base(method: Method, decimals: u8) -> Option<i128>
 }
 
 // The release of a job that hides cells: guarded against contributors, where it names a file for them.
-fn hiding_release(alloc: Global, job: SettledJob) -> Result<Release, Report>
+fn hiding_release(alloc: Global, job: ClassifiedJob) -> Result<Release, Report>
     requires can { CanBeReleased job }
     requires hides { roundings.job_base job.described ≡ None }
     ensures comes { (settled : SettledInputs) → IsSettledOf settled job → ComesToRelease settled result }
@@ -77,7 +77,7 @@ fn hiding_release(alloc: Global, job: SettledJob) -> Result<Release, Report>
 }
 
 // The release of a job that hides cells and names no file for contributors.
-fn suppressed_release(alloc: Global, job: SettledJob) -> Result<Release, Report>
+fn suppressed_release(alloc: Global, job: ClassifiedJob) -> Result<Release, Report>
     requires can { CanBeReleased job }
     requires hides { roundings.job_base job.described ≡ None }
     requires unnamed { job.described.job.contributors ≡ None }
@@ -85,7 +85,7 @@ fn suppressed_release(alloc: Global, job: SettledJob) -> Result<Release, Report>
     ensures one_more_than_tables { IfOk result (λ release. length release.puts ≡ 1 + length job.described.job.tables) }
 {
     let summary = unhidden_summary(&job);
-    let SettledJob {
+    let ClassifiedJob {
         described,
         mut book,
         cells,

@@ -3,7 +3,7 @@ ghost use Rattle.job_run.specs.Reporting as spec;
 
 use crate::report::{Report, Stuck};
 use attackers::Against;
-use cell_guards::Unguarded;
+use contributor_protection::GuardFailure;
 use interval_audit::AskFault;
 use job_inputs::{FileRef, InputStop};
 use plain_text::Stop;
@@ -49,22 +49,22 @@ impl From<Stopped> for Report {
     }
 }
 
-impl From<Unguarded> for Report {
+impl From<GuardFailure> for Report {
     ghost use Rattle.std.specs.Prelude.{◌≡◌};
-    ghost use Rattle.job_run.specs.Reporting.{unguarded_report};
+    ghost use Rattle.job_run.specs.Reporting.{guard_failure_report};
 
-    ghost from_gives = { λ reason e. e ≡ unguarded_report reason };
+    ghost from_gives = { λ reason e. e ≡ guard_failure_report reason };
 
-    fn from(reason: Unguarded) -> Self {
+    fn from(reason: GuardFailure) -> Self {
         match reason {
-            Unguarded::CannotAgainst(found) => Report::CannotAgainst {
+            GuardFailure::CannotAgainst(found) => Report::CannotAgainst {
                 row: found.attack.row,
                 cell: found.attack.cell,
                 side: found.attack.side,
                 multipliers: found.multipliers,
             },
-            Unguarded::Undecided { stopped, against } => stuck_report(stopped, Some(against)),
-            Unguarded::Memory => Report::Memory,
+            GuardFailure::Undecided { stopped, against } => stuck_report(stopped, Some(against)),
+            GuardFailure::Memory => Report::Memory,
         }
     }
 }

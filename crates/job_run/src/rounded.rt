@@ -1,6 +1,6 @@
 ghost use Rattle.std.specs.Prelude.{◌≡◌, ◌+◌, Some, IfOk, length, map};
 ghost use Rattle.certificate.specs.Laws.{without_hidden_cells};
-ghost use Rattle.job_inputs.specs.SettledJobs.{IsSettledOf, SettledInputs};
+ghost use Rattle.job_inputs.specs.ClassifiedJobs.{IsSettledOf, SettledInputs};
 ghost use Rattle.job_run.specs.Books.{CanBeReleased};
 ghost use Rattle.job_run.specs.Reports.{ComesToRelease};
 ghost use Rattle.job_run.specs.Roundings as roundings;
@@ -11,7 +11,7 @@ use crate::release_texts::puts_for;
 use crate::report::Report;
 use crate::reporting::search_report;
 use certificate::Certificate;
-use job_inputs::SettledJob;
+use job_inputs::ClassifiedJob;
 use relations::relations_of;
 use release_writer::Shown;
 use rounding::round;
@@ -20,7 +20,11 @@ use std::alloc::Global;
 
 /// The release of a job that rounds to this base, in units: the cells show a rounding of their truths, and none is
 /// hidden.
-pub(crate) fn rounded_release(alloc: Global, job: SettledJob, base: i128) -> Result<Release, Report>
+pub(crate) fn rounded_release(
+    alloc: Global,
+    job: ClassifiedJob,
+    base: i128,
+) -> Result<Release, Report>
     requires can { CanBeReleased job }
     requires rounds { roundings.job_base job.described ≡ Some base }
     ensures comes { (settled : SettledInputs) → IsSettledOf settled job → ComesToRelease settled result }
@@ -30,7 +34,7 @@ pub(crate) fn rounded_release(alloc: Global, job: SettledJob, base: i128) -> Res
 }
 
 // The same, of a job that is lent.
-fn round_job(alloc: Global, job: &SettledJob, base: i128) -> Result<Release, Report>
+fn round_job(alloc: Global, job: &ClassifiedJob, base: i128) -> Result<Release, Report>
     requires can { CanBeReleased job.now }
     requires rounds { roundings.job_base job.now.described ≡ Some base }
     ensures comes { (settled : SettledInputs) → IsSettledOf settled job.now → ComesToRelease settled result }

@@ -1,6 +1,6 @@
 ghost use Rattle.std.specs.Prelude.{◌≡◌, ◌≢◌, ◌↔◌, IfErr, IfOk};
 ghost use Rattle.sdc_base.specs.WhereTold.{WhereTold};
-ghost use Rattle.job_inputs.specs.SettledJobs.{settled_of};
+ghost use Rattle.job_inputs.specs.ClassifiedJobs.{settled_of};
 ghost use Rattle.job_inputs.specs.declared.purpose.Purpose.TheVariants as purpose;
 ghost use Rattle.job_run.specs.AuditRuns.{IsAuditRunOf};
 ghost use Rattle.job_run.specs.Checks.{IsCheckOf};

@@ -59,6 +59,6 @@ abbrev pub book_of : List Tree → List (List ℕ) → Result (List Tree × List
 book_of trees tables = unless_fault (first_table_fault trees [] tables) (trees, tables)
 
 -- the fault that an error names; want of memory names none
-abbrev pub fault_of : BookFault → Option BookFault
-fault_of fault.Memory = None
-fault_of one = Some one
+abbrev pub book_fault_of : BookFault → Option BookFault
+book_fault_of fault.Memory = None
+book_fault_of one = Some one

@@ -2,7 +2,7 @@ ghost use Rattle.std.specs.Prelude.{◌≡◌, ◌↔◌, ◌≤◌, ◌<◌, �
 ghost use Rattle.std.specs.Option.{ForSome};
 ghost use Rattle.sdc_base.specs.Answers.{Gives};
 ghost use Rattle.linked_tables.specs.BlankMarks.{IsBlank};
-ghost use Rattle.linked_tables.specs.Tables.{book_of, fault_of};
+ghost use Rattle.linked_tables.specs.Tables.{book_of, book_fault_of};
 ghost use Rattle.linked_tables.specs.BookCells.{cell_at, is_place_of, number_of, IsBook};
 ghost use Rattle.linked_tables.specs.BookCells as spec;
 
@@ -59,7 +59,8 @@ impl Book {
     pub fn new(alloc: Global, trees: Vec<CodeTree>, tables: Vec<Place>) -> Result<Book, BookFault>
         requires at_most_8 { length trees.items ≤ 8 }
         requires fewer { length tables.items < 2 ^ 32 }
-        ensures exact { Gives fault_of (λ book. (book.trees, book.tables)) result (book_of trees.items tables.items) }
+        ensures exact { Gives book_fault_of (λ book. (book.trees, book.tables)) result
+            (book_of trees.items tables.items) }
         ensures blank { IfOk result (λ book. All IsBlank book.marks) }
         ensures one_each { IfOk result (λ book. length book.marks ≡ length (spec.cells book)) }
     {

@@ -2,7 +2,7 @@ ghost use Rattle.std.specs.Prelude.{◌≡◌, ◌≤◌, ◌<◌, ◌^◌, ◌+
 ghost use Rattle.sdc_base.specs.Answers.{Fails};
 ghost use Rattle.sdc_base.specs.Cells.{named_by, with_name};
 ghost use Rattle.linked_tables.specs.BlankMarks.{IsBlank};
-ghost use Rattle.linked_tables.specs.Tables.{book_of, fault_of, first_table_fault, most_cells, unless_fault, variables_fault};
+ghost use Rattle.linked_tables.specs.Tables.{book_of, book_fault_of, first_table_fault, most_cells, unless_fault, variables_fault};
 ghost use Rattle.linked_tables.specs.BookKeeping.{IsNumbered, names_within_limit, names_below};
 
 use crate::book_fault::BookFault;
@@ -36,7 +36,7 @@ pub(crate) fn number_cells(
     requires at_most_8 { length trees.now ≤ 8 }
     requires fewer { length tables.now < 2 ^ 32 }
     ensures none { OnOk result (first_table_fault trees.now [] tables.now ≡ None) }
-    ensures fault { IfErr result (λ fault. Fails (fault_of fault) (book_of trees.now tables.now)) }
+    ensures fault { IfErr result (λ fault. Fails (book_fault_of fault) (book_of trees.now tables.now)) }
     ensures numbered { IfOk result (λ made. IsNumbered trees.now tables.now made.names made.starts.items) }
 {
     let mut names = Names::new(alloc);
@@ -61,7 +61,7 @@ pub(crate) fn number_cells(
 // Refuses a table that spans a variable that there isn't, or one twice.
 fn check_variables(variables: usize, t: u32, table: &[u32]) -> Result<(), BookFault>
     ensures none { OnOk result (variables_fault variables t table.now ≡ None) }
-    ensures fault { IfErr result (λ fault. Fails (fault_of fault)
+    ensures fault { IfErr result (λ fault. Fails (book_fault_of fault)
         (unless_fault (variables_fault variables t table.now) (tt {0}))) }
 {
     if spans_unknown(variables, table) {
@@ -87,7 +87,7 @@ fn name_below(
     requires room { length names.old ≤ most_cells }
     ensures names { OnOk result (names_within_limit t
         (fold with_name names.old (names_below trees.now table.now place.now)) ≡ Ok names.new) }
-    ensures fault { IfErr result (λ fault. Fails (fault_of fault)
+    ensures fault { IfErr result (λ fault. Fails (book_fault_of fault)
         (names_within_limit t (fold with_name names.old (names_below trees.now table.now place.now)))) }
 {
     if place.len() >= table.len() {
@@ -110,7 +110,8 @@ fn add_name(
     guesses: &mut Vec<usize>,
 ) -> Result<(), BookFault>
     ensures names { OnOk result (names_within_limit t (with_name names.old name) ≡ Ok names.new) }
-    ensures fault { IfErr result (λ fault. Fails (fault_of fault) (names_within_limit t (with_name names.old name))) }
+    ensures fault { IfErr result
+        (λ fault. Fails (book_fault_of fault) (names_within_limit t (with_name names.old name))) }
 {
     let number = match names.number_of(&name) {
         Some(number) => number,

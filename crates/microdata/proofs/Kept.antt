@@ -24,7 +24,7 @@ use Rattle.microdata.specs.declared.layout.NumberField.{NumberField}
 use Rattle.microdata.specs.declared.layout.Source.{Source}
 use Rattle.microdata.specs.declared.layout.Source.TheVariants as source
 use Rattle.microdata.specs.KeptRows.{KeptRow}
-use Rattle.microdata.specs.declared.record.SoFar.{SoFar}
+use Rattle.microdata.specs.declared.record.ReaderProgress.{ReaderProgress}
 use Rattle.microdata.specs.declared.record.Variable.{Variable}
 use Rattle.microdata.specs.declared.taking.Seen.{Seen}
 use Rattle.microdata.proofs.LevelCodes.{passed}
@@ -218,7 +218,7 @@ pub record IsKept (scale : ℕ) (variables : List Variable) (kept : KeptRow) : T
   pub light : kept.weight < 10 ^ 8
 
 -- the records so far are within their limits
-pub record IsGood (scale : ℕ) (spanning : List Field) (so_far : SoFar) : Type 0 where
+pub record IsGood (scale : ℕ) (spanning : List Field) (so_far : ReaderProgress) : Type 0 where
   pub fields : map (λ variable. variable.field) so_far.variables ≡ spanning
   pub rows : AllByRecursion (IsKept scale so_far.variables) so_far.rows
   pub few : length so_far.rows ≤ so_far.number
@@ -233,7 +233,7 @@ kept-more : (scale : ℕ) (variables : List Variable) (rows : List KeptRow) (row
 kept-more scale variables [] row all one = (one, tt)
 kept-more scale variables (first ∷ rows) row all one = (all.0, kept-more scale variables rows row all.1 one)
 
-response-good : (m : Measures) (spanning : List Field) (so_far next : SoFar) (line : List ℕ) → so_far.number < 1000000 → IsGood (scale_of m.weight) spanning so_far → response_says m so_far line ≡ Ok next → IsGood (scale_of m.weight) spanning next
+response-good : (m : Measures) (spanning : List Field) (so_far next : ReaderProgress) (line : List ℕ) → so_far.number < 1000000 → IsGood (scale_of m.weight) spanning so_far → response_says m so_far line ≡ Ok next → IsGood (scale_of m.weight) spanning next
 unfolding response_says
 response-good m spanning so_far next line room good h =
     let a = bind_ok (value_of m.response line) _ next h in
@@ -251,7 +251,7 @@ response-good m spanning so_far next line room good h =
       records = omega (arith, room);
     })
 
-record-good : (m : Measures) (spanning : List Field) (so_far next : SoFar) (line : List ℕ) → IsGood (scale_of m.weight) spanning so_far → record_says m so_far line ≡ Ok next → IsGood (scale_of m.weight) spanning next
+record-good : (m : Measures) (spanning : List Field) (so_far next : ReaderProgress) (line : List ℕ) → IsGood (scale_of m.weight) spanning so_far → record_says m so_far line ≡ Ok next → IsGood (scale_of m.weight) spanning next
 unfolding record_says
 record-good m spanning so_far next line good h =
     let a = passed TooLong (nat_lt 1000 (length line)) _ next h in
@@ -259,7 +259,7 @@ record-good m spanning so_far next line good h =
     let c = passed Short (nat_lt (length line) m.needed) _ next b.1 in
     by (not-at so_far.number 1000000 b.0) (has_no_response m.response line) c.1
   where
-    by : so_far.number < 1000000 → (skipped : Bool) → cond {A = Result SoFar RowWhy} skipped (Ok (with_skipped so_far)) (response_says m so_far line) ≡ Ok next → IsGood (scale_of m.weight) spanning next
+    by : so_far.number < 1000000 → (skipped : Bool) → cond {A = Result ReaderProgress RowWhy} skipped (Ok (with_skipped so_far)) (response_says m so_far line) ≡ Ok next → IsGood (scale_of m.weight) spanning next
     by room true e = subst (IsGood (scale_of m.weight) spanning) (value_of_ok (with_skipped so_far) next e) (record { fields = good.fields; rows = good.rows; few = omega (arith, good.few); records = omega (arith, room) })
     by room false e = response-good m spanning so_far next line room good e
 
@@ -267,11 +267,11 @@ pub same-value : {A : Type 0} (number : ℕ) (read : Result A RowWhy) (x : A) �
 same-value number (Ok y) x h = ap Ok (value_of_ok y x h)
 same-value number (Err why) x h = cc
 
-line-good : (m : Measures) (spanning : List Field) (so_far next : SoFar) (line : List ℕ) → IsGood (scale_of m.weight) spanning so_far → line_says m so_far line ≡ Ok next → IsGood (scale_of m.weight) spanning next
+line-good : (m : Measures) (spanning : List Field) (so_far next : ReaderProgress) (line : List ℕ) → IsGood (scale_of m.weight) spanning so_far → line_says m so_far line ≡ Ok next → IsGood (scale_of m.weight) spanning next
 line-good m spanning so_far next [] good h = subst (IsGood (scale_of m.weight) spanning) (value_of_ok so_far next h) good
 line-good m spanning so_far next (b ∷ line) good h = record-good m spanning so_far next (b ∷ line) good (same-value (so_far.number + 1) (record_says m so_far (b ∷ line)) next h)
 
-pub lines-good : (m : Measures) (spanning : List Field) (so_far last : SoFar) (lines : List (List ℕ)) → IsGood (scale_of m.weight) spanning so_far → lines_say m so_far lines ≡ Ok last → IsGood (scale_of m.weight) spanning last
+pub lines-good : (m : Measures) (spanning : List Field) (so_far last : ReaderProgress) (lines : List (List ℕ)) → IsGood (scale_of m.weight) spanning so_far → lines_say m so_far lines ≡ Ok last → IsGood (scale_of m.weight) spanning last
 unfolding lines_say
 lines-good m spanning so_far last [] good h = subst (IsGood (scale_of m.weight) spanning) (value_of_ok so_far last h) good
 lines-good m spanning so_far last (line ∷ lines) good h =

@@ -17,13 +17,13 @@ use Rattle.microdata.specs.declared.faults.RowWhy.{RowWhy}
 use Rattle.microdata.specs.declared.faults.RowWhy.TheVariants.{TooLong, TooMany, Short}
 use Rattle.microdata.specs.declared.layout.Measures.{Measures}
 use Rattle.microdata.specs.KeptRows.{KeptRow}
-use Rattle.microdata.specs.declared.record.SoFar.{SoFar}
+use Rattle.microdata.specs.declared.record.ReaderProgress.{ReaderProgress}
 use Rattle.microdata.specs.declared.records.Records.{Records}
 use Rattle.microdata.proofs.Kept.{value_of_ok, same-value}
 use Rattle.microdata.proofs.LevelCodes.{passed}
 
 -- the records so far, each with its number
-record IsCounted (before : List (List ℕ)) (so_far : SoFar) : Type 0 where
+record IsCounted (before : List (List ℕ)) (so_far : ReaderProgress) : Type 0 where
   pub number : so_far.number ≡ length (filter is_record before)
   pub rows : AllByRecursion (λ kept. IsNumberOfRecord before kept.number) so_far.rows
 
@@ -51,7 +51,7 @@ filter-empty ((c ∷ other) ∷ before) = let rest = filter-empty before in omeg
 here : (before : List (List ℕ)) (b : ℕ) (line : List ℕ) (number : ℕ) → number ≡ length (filter is_record before) → IsNumberOfRecord (before ++ (b ∷ line) ∷ []) (number + 1)
 here before b line number is = (before, b ∷ line, [], refl, refl, ap (λ n. n + 1) is)
 
-response-counted : (m : Measures) (before : List (List ℕ)) (so_far next : SoFar) (b : ℕ) (line : List ℕ) → IsCounted before so_far → response_says m so_far (b ∷ line) ≡ Ok next → IsCounted (before ++ (b ∷ line) ∷ []) next
+response-counted : (m : Measures) (before : List (List ℕ)) (so_far next : ReaderProgress) (b : ℕ) (line : List ℕ) → IsCounted before so_far → response_says m so_far (b ∷ line) ≡ Ok next → IsCounted (before ++ (b ∷ line) ∷ []) next
 unfolding response_says
 response-counted m before so_far next b line counted h =
     let v = bind_ok (value_of m.response (b ∷ line)) _ next h in
@@ -63,7 +63,7 @@ response-counted m before so_far next b line counted h =
       rows = rows-last (before ++ (b ∷ line) ∷ []) so_far.rows row (rows-more before ((b ∷ line) ∷ []) so_far.rows counted.rows) (here before b line so_far.number counted.number);
     })
 
-record-counted : (m : Measures) (before : List (List ℕ)) (so_far next : SoFar) (b : ℕ) (line : List ℕ) → IsCounted before so_far → record_says m so_far (b ∷ line) ≡ Ok next → IsCounted (before ++ (b ∷ line) ∷ []) next
+record-counted : (m : Measures) (before : List (List ℕ)) (so_far next : ReaderProgress) (b : ℕ) (line : List ℕ) → IsCounted before so_far → record_says m so_far (b ∷ line) ≡ Ok next → IsCounted (before ++ (b ∷ line) ∷ []) next
 unfolding record_says
 record-counted m before so_far next b line counted h =
     let x = passed TooLong (nat_lt 1000 (length (b ∷ line))) _ next h in
@@ -71,11 +71,11 @@ record-counted m before so_far next b line counted h =
     let z = passed Short (nat_lt (length (b ∷ line)) m.needed) _ next y.1 in
     by (has_no_response m.response (b ∷ line)) z.1
   where
-    by : (skipped : Bool) → cond {A = Result SoFar RowWhy} skipped (Ok (with_skipped so_far)) (response_says m so_far (b ∷ line)) ≡ Ok next → IsCounted (before ++ (b ∷ line) ∷ []) next
+    by : (skipped : Bool) → cond {A = Result ReaderProgress RowWhy} skipped (Ok (with_skipped so_far)) (response_says m so_far (b ∷ line)) ≡ Ok next → IsCounted (before ++ (b ∷ line) ∷ []) next
     by true e = subst (IsCounted (before ++ (b ∷ line) ∷ [])) (value_of_ok (with_skipped so_far) next e) (record { number = ap (λ n. n + 1) counted.number ∙ sym (filter-last before b line); rows = rows-more before ((b ∷ line) ∷ []) so_far.rows counted.rows })
     by false e = response-counted m before so_far next b line counted e
 
-line-counted : (m : Measures) (before : List (List ℕ)) (so_far next : SoFar) (line : List ℕ) → IsCounted before so_far → line_says m so_far line ≡ Ok next → IsCounted (before ++ line ∷ []) next
+line-counted : (m : Measures) (before : List (List ℕ)) (so_far next : ReaderProgress) (line : List ℕ) → IsCounted before so_far → line_says m so_far line ≡ Ok next → IsCounted (before ++ line ∷ []) next
 line-counted m before so_far next [] counted h =
     subst (IsCounted (before ++ [] ∷ [])) (value_of_ok so_far next h) (record { number = counted.number ∙ sym (filter-empty before); rows = rows-more before ([] ∷ []) so_far.rows counted.rows })
 line-counted m before so_far next (b ∷ line) counted h = record-counted m before so_far next b line counted (same-value (so_far.number + 1) (record_says m so_far (b ∷ line)) next h)
@@ -84,22 +84,22 @@ fault-at : {A : Type 0} (number at : ℕ) (why : RowWhy) (read : Result A RowWhy
 fault-at number at why (Ok x) h = cc
 fault-at number at why (Err other) h = let pair : ◌≡◌ {A = ℕ × RowWhy} (number, other) (at, why) = cc in ap (λ (p : ℕ × RowWhy). p.0) pair
 
-line-numbered : (m : Measures) (before : List (List ℕ)) (so_far : SoFar) (line : List ℕ) (number : ℕ) (why : RowWhy) → IsCounted before so_far → line_says m so_far line ≡ Err (number, why) → IsNumberOfRecord (before ++ line ∷ []) number
+line-numbered : (m : Measures) (before : List (List ℕ)) (so_far : ReaderProgress) (line : List ℕ) (number : ℕ) (why : RowWhy) → IsCounted before so_far → line_says m so_far line ≡ Err (number, why) → IsNumberOfRecord (before ++ line ∷ []) number
 line-numbered m before so_far [] number why counted h = cc
 line-numbered m before so_far (b ∷ line) number why counted h = subst (IsNumberOfRecord (before ++ (b ∷ line) ∷ [])) (fault-at (so_far.number + 1) number why (record_says m so_far (b ∷ line)) h) (here before b line so_far.number counted.number)
 
-lines-counted : (m : Measures) (before rest : List (List ℕ)) (so_far last : SoFar) → IsCounted before so_far → lines_say m so_far rest ≡ Ok last → IsCounted (before ++ rest) last
+lines-counted : (m : Measures) (before rest : List (List ℕ)) (so_far last : ReaderProgress) → IsCounted before so_far → lines_say m so_far rest ≡ Ok last → IsCounted (before ++ rest) last
 unfolding lines_say
 lines-counted m before [] so_far last counted h = subst (λ (all : List (List ℕ)). IsCounted all last) (sym (append-nil before)) (subst (IsCounted before) (value_of_ok so_far last h) counted)
 lines-counted m before (line ∷ rest) so_far last counted h =
     let a = bind_ok (line_says m so_far line) _ last h in
     subst (λ (all : List (List ℕ)). IsCounted all last) (append_assoc before (line ∷ []) rest) (lines-counted m (before ++ line ∷ []) rest a.0 last (line-counted m before so_far a.0 line counted a.1) a.2)
 
-lines-numbered : (m : Measures) (before rest : List (List ℕ)) (so_far : SoFar) (number : ℕ) (why : RowWhy) → IsCounted before so_far → lines_say m so_far rest ≡ Err (number, why) → IsNumberOfRecord (before ++ rest) number
+lines-numbered : (m : Measures) (before rest : List (List ℕ)) (so_far : ReaderProgress) (number : ℕ) (why : RowWhy) → IsCounted before so_far → lines_say m so_far rest ≡ Err (number, why) → IsNumberOfRecord (before ++ rest) number
 unfolding lines_say
 lines-numbered m before [] so_far number why counted h = cc
 lines-numbered m before (line ∷ rest) so_far number why counted h =
-    let later = λ (next : SoFar) (counts : IsCounted (before ++ line ∷ []) next) (said : lines_say m next rest ≡ Err (number, why)). lines-numbered m (before ++ line ∷ []) rest next number why counts said in
+    let later = λ (next : ReaderProgress) (counts : IsCounted (before ++ line ∷ []) next) (said : lines_say m next rest ≡ Err (number, why)). lines-numbered m (before ++ line ∷ []) rest next number why counts said in
     subst (λ (all : List (List ℕ)). IsNumberOfRecord all number) (append_assoc before (line ∷ []) rest)
     (elim (bind_err (line_says m so_far line) (λ next. lines_say m next rest) (number, why) h) [
       | inl stops ↦ number-more (before ++ line ∷ []) rest number (line-numbered m before so_far line number why counted stops)
@@ -131,7 +131,7 @@ faults_are_numbered layout bytes number why h =
           rows-numbered (lines bytes) (map closed_of next.0.variables) next.0.rows number why counted.rows (closing-stops next.0 (rows_of (map closed_of next.0.variables) next.0.rows) next.2)
     ]
   where
-    closing-stops : (so_far : SoFar) (read : Result (List Row) (ℕ × RowWhy)) → ◌>>=◌ {B = Records} read (λ rows. Ok (record { trees = map (λ (closed : ClosedVariable). closed.tree) (map closed_of so_far.variables); rows = rows; skipped = so_far.skipped })) ≡ Err (number, why) → read ≡ Err (number, why)
+    closing-stops : (so_far : ReaderProgress) (read : Result (List Row) (ℕ × RowWhy)) → ◌>>=◌ {B = Records} read (λ rows. Ok (record { trees = map (λ (closed : ClosedVariable). closed.tree) (map closed_of so_far.variables); rows = rows; skipped = so_far.skipped })) ≡ Err (number, why) → read ≡ Err (number, why)
     closing-stops so_far (Ok rows) h = cc
     closing-stops so_far (Err fault) h = ap Err (same-fault fault (number, why) h)
       where

@@ -33,7 +33,7 @@ use Rattle.microdata.specs.declared.record.Variable.{Variable}
 use Rattle.microdata.specs.declared.records.Records.{Records}
 use Rattle.microdata.specs.declared.taking.Seen.{Seen}
 use Rattle.microdata.specs.SeenCodes.{seen_first}
-use Rattle.microdata.specs.declared.record.SoFar.{SoFar}
+use Rattle.microdata.specs.declared.record.ReaderProgress.{ReaderProgress}
 use Rattle.microdata.proofs.InOrder.{AreInOrder}
 use Rattle.microdata.proofs.Kept.{value_of_ok, same-value}
 use Rattle.microdata.proofs.RowsMeant.{Stands, code_in, AreNumbersOf, IsKeptOf, AreKeptOf, IsBrought, IsMeantSoFar, lines-meant, get-in}
@@ -164,13 +164,13 @@ meant-first : (layout : Layout) → IsLayout layout → IsMeantSoFar layout [] 0
 meant-first layout fine = record { fields = fields-first layout.spanning; sound = sound-first layout.needed layout.spanning fine.fields; rows = tt; skipped = refl; brought = all-brought-first layout.spanning }
 
 -- what was kept of the records that are read
-pub record IsReadFrom (layout : Layout) (bytes : List ℕ) (records : Records) (last : SoFar) : Type 0 where
+pub record IsReadFrom (layout : Layout) (bytes : List ℕ) (records : Records) (last : ReaderProgress) : Type 0 where
   pub meant : IsMeantSoFar layout (filter (is_answered layout.response) (lines bytes)) (length (filter (is_unanswered layout.response) (lines bytes))) last
   pub trees : records.trees ≡ trees_in last.variables
   pub rows : AreRowsOf layout records.trees (filter (is_answered layout.response) (lines bytes)) records.rows
   pub skipped : records.skipped ≡ length (filter (is_unanswered layout.response) (lines bytes))
 
-pub read-from : (layout : Layout) (bytes : List ℕ) (records : Records) → IsLayout layout → records_of layout bytes ≡ Ok records → (last : SoFar) × IsReadFrom layout bytes records last
+pub read-from : (layout : Layout) (bytes : List ℕ) (records : Records) → IsLayout layout → records_of layout bytes ≡ Ok records → (last : ReaderProgress) × IsReadFrom layout bytes records last
 unfolding records_of closed_records
 read-from layout bytes records fine h =
     let a = bind_ok (lines_say (measures_of layout) (no_records layout) (lines bytes)) _ records h in

@@ -25,7 +25,7 @@ use Rattle.microdata.specs.declared.layout.Layout.{Layout}
 use Rattle.microdata.specs.declared.layout.Source.{Source}
 use Rattle.microdata.specs.declared.layout.Source.TheVariants as source
 use Rattle.microdata.specs.KeptRows.{KeptRow}
-use Rattle.microdata.specs.declared.record.SoFar.{SoFar}
+use Rattle.microdata.specs.declared.record.ReaderProgress.{ReaderProgress}
 use Rattle.microdata.specs.declared.record.Variable.{Variable}
 use Rattle.microdata.specs.declared.taking.Seen.{Seen}
 use Rattle.microdata.proofs.FlatCodes.{flat-sound, in-either, in-first, in-second}
@@ -312,14 +312,14 @@ kept-more layout variables (first ∷ lines) [] line row h one = absurd h
 kept-more layout variables (first ∷ lines) (other ∷ rows) line row h one = (h.0, kept-more layout variables lines rows line row h.1 one)
 
 -- so many records were skipped, and these are the others
-pub record IsMeantSoFar (layout : Layout) (answered : List (List ℕ)) (unanswered : ℕ) (so_far : SoFar) : Type 0 where
+pub record IsMeantSoFar (layout : Layout) (answered : List (List ℕ)) (unanswered : ℕ) (so_far : ReaderProgress) : Type 0 where
   pub fields : map (λ variable. variable.field) so_far.variables ≡ layout.spanning
   pub sound : AllByRecursion (λ variable. AreSeen variable.field.source variable.seen) so_far.variables
   pub rows : AreKeptOf layout so_far.variables answered so_far.rows
   pub skipped : so_far.skipped ≡ unanswered
   pub brought : AllByRecursion (IsBrought answered) so_far.variables
 
-response-meant : (layout : Layout) (answered : List (List ℕ)) (unanswered : ℕ) (so_far next : SoFar) (line : List ℕ) → IsMeantSoFar layout answered unanswered so_far → response_says (measures_of layout) so_far line ≡ Ok next
+response-meant : (layout : Layout) (answered : List (List ℕ)) (unanswered : ℕ) (so_far next : ReaderProgress) (line : List ℕ) → IsMeantSoFar layout answered unanswered so_far → response_says (measures_of layout) so_far line ≡ Ok next
     → IsMeantSoFar layout (answered ++ line ∷ []) unanswered next
 unfolding response_says
 response-meant layout answered unanswered so_far next line meant h =
@@ -337,8 +337,8 @@ response-meant layout answered unanswered so_far next line meant h =
       brought = said.brought answered meant.brought;
     })
 
-record-step : (layout : Layout) (so_far next : SoFar) (line : List ℕ) → record_says (measures_of layout) so_far line ≡ Ok next
-    → cond {A = Result SoFar RowWhy} (has_no_response layout.response line) (Ok (with_skipped so_far)) (response_says (measures_of layout) so_far line) ≡ Ok next
+record-step : (layout : Layout) (so_far next : ReaderProgress) (line : List ℕ) → record_says (measures_of layout) so_far line ≡ Ok next
+    → cond {A = Result ReaderProgress RowWhy} (has_no_response layout.response line) (Ok (with_skipped so_far)) (response_says (measures_of layout) so_far line) ≡ Ok next
 unfolding record_says
 record-step layout so_far next line h =
     let a = passed TooLong (nat_lt 1000 (length line)) _ next h in
@@ -353,10 +353,10 @@ filter-no : (test : List ℕ → Bool) (line : List ℕ) (lines : List (List ℕ
 filter-no test line lines h = rw h refl
 
 -- all lines, behind those before them
-abbrev pub IsMeantWith : Layout → List (List ℕ) → ℕ → List (List ℕ) → SoFar → Type 0
+abbrev pub IsMeantWith : Layout → List (List ℕ) → ℕ → List (List ℕ) → ReaderProgress → Type 0
 IsMeantWith layout answered unanswered rest last = IsMeantSoFar layout (answered ++ filter (is_answered layout.response) rest) (unanswered + length (filter (is_unanswered layout.response) rest)) last
 
-skip-step : (layout : Layout) (answered : List (List ℕ)) (unanswered b : ℕ) (line : List ℕ) (rest : List (List ℕ)) (last : SoFar) → has_no_response layout.response (b ∷ line) ≡ true
+skip-step : (layout : Layout) (answered : List (List ℕ)) (unanswered b : ℕ) (line : List ℕ) (rest : List (List ℕ)) (last : ReaderProgress) → has_no_response layout.response (b ∷ line) ≡ true
     → IsMeantWith layout answered (unanswered + 1) rest last → IsMeantWith layout answered unanswered ((b ∷ line) ∷ rest) last
 skip-step layout answered unanswered b line rest last none h =
     let no : is_answered layout.response (b ∷ line) ≡ false = ap not none in
@@ -364,7 +364,7 @@ skip-step layout answered unanswered b line rest last none h =
     let count : unanswered + 1 + length (filter (is_unanswered layout.response) rest) ≡ unanswered + suc (length (filter (is_unanswered layout.response) rest)) = omega arith in
     rw (filter-no (is_answered layout.response) (b ∷ line) rest no, filter-yes (is_unanswered layout.response) (b ∷ line) rest yes) (subst (λ n. IsMeantSoFar layout (answered ++ filter (is_answered layout.response) rest) n last) count h)
 
-take-step : (layout : Layout) (answered : List (List ℕ)) (unanswered b : ℕ) (line : List ℕ) (rest : List (List ℕ)) (last : SoFar) → has_no_response layout.response (b ∷ line) ≡ false
+take-step : (layout : Layout) (answered : List (List ℕ)) (unanswered b : ℕ) (line : List ℕ) (rest : List (List ℕ)) (last : ReaderProgress) → has_no_response layout.response (b ∷ line) ≡ false
     → IsMeantWith layout (answered ++ (b ∷ line) ∷ []) unanswered rest last → IsMeantWith layout answered unanswered ((b ∷ line) ∷ rest) last
 take-step layout answered unanswered b line rest last some h =
     let yes : is_answered layout.response (b ∷ line) ≡ true = ap not some in
@@ -372,7 +372,7 @@ take-step layout answered unanswered b line rest last some h =
     rw (filter-yes (is_answered layout.response) (b ∷ line) rest yes, filter-no (is_unanswered layout.response) (b ∷ line) rest no)
     (subst (λ (all : List (List ℕ)). IsMeantSoFar layout all (unanswered + length (filter (is_unanswered layout.response) rest)) last) (append_assoc answered ((b ∷ line) ∷ []) (filter (is_answered layout.response) rest)) h)
 
-pub lines-meant : (layout : Layout) (answered : List (List ℕ)) (unanswered : ℕ) (so_far last : SoFar) (rest : List (List ℕ)) → IsMeantSoFar layout answered unanswered so_far → lines_say (measures_of layout) so_far rest ≡ Ok last
+pub lines-meant : (layout : Layout) (answered : List (List ℕ)) (unanswered : ℕ) (so_far last : ReaderProgress) (rest : List (List ℕ)) → IsMeantSoFar layout answered unanswered so_far → lines_say (measures_of layout) so_far rest ≡ Ok last
     → IsMeantWith layout answered unanswered rest last
 unfolding lines_say
 lines-meant layout answered unanswered so_far last [] meant h =
@@ -384,7 +384,7 @@ lines-meant layout answered unanswered so_far last ((b ∷ line) ∷ rest) meant
     let a = bind_ok (line_says (measures_of layout) so_far (b ∷ line)) _ last h in
     let step = record-step layout so_far a.0 (b ∷ line) (same-value (so_far.number + 1) (record_says (measures_of layout) so_far (b ∷ line)) a.0 a.1) in
     let later = λ (answered : List (List ℕ)) (unanswered : ℕ) (good : IsMeantSoFar layout answered unanswered a.0). lines-meant layout answered unanswered a.0 last rest good a.2 in
-    elim (has_no_response layout.response (b ∷ line)) as (λ t. has_no_response layout.response (b ∷ line) ≡ t → cond {A = Result SoFar RowWhy} t (Ok (with_skipped so_far)) (response_says (measures_of layout) so_far (b ∷ line)) ≡ Ok a.0
+    elim (has_no_response layout.response (b ∷ line)) as (λ t. has_no_response layout.response (b ∷ line) ≡ t → cond {A = Result ReaderProgress RowWhy} t (Ok (with_skipped so_far)) (response_says (measures_of layout) so_far (b ∷ line)) ≡ Ok a.0
     → IsMeantWith layout answered unanswered ((b ∷ line) ∷ rest) last) [
       | true ↦ λ is e. skip-step layout answered unanswered b line rest last is
           (later answered (unanswered + 1) (subst (IsMeantSoFar layout answered (unanswered + 1)) (value_of_ok (with_skipped so_far) a.0 e) (record { fields = meant.fields; sound = meant.sound; rows = meant.rows; skipped = ap (λ n. n + 1) meant.skipped; brought = meant.brought })))

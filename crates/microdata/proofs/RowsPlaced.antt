@@ -6,7 +6,7 @@ use Rattle.sdc_base.specs.Steps.{◌>>=◌}
 use Rattle.sdc_base.specs.declared.rows.Row.{Row}
 use Rattle.microdata.specs.Closing.{leaves_of, row_of, rows_of}
 use Rattle.plain_text.specs.Stops.{why_of}
-use Rattle.microdata.specs.Faults.{fault_of, at_record, error_of}
+use Rattle.microdata.specs.Faults.{row_fault_of, at_record, error_of}
 use Rattle.microdata.specs.KeptRows.{KeptRow, kept_of, kept_rows}
 use Rattle.microdata.specs.declared.closing.ClosedVariable.{ClosedVariable}
 use Rattle.microdata.specs.declared.faults.RowError.{RowError}
@@ -24,7 +24,7 @@ kept_more (one ∷ numbers) [] number row same = absurd (omega (arith, same))
 kept_more (one ∷ numbers) (first ∷ rows) number row same = ap (λ (kept : List KeptRow). kept_of one first ∷ kept) (kept_more numbers rows number row (omega (arith, same)))
 
 -- a row whose codes have no places has the fault of these, with the number of its record
-pub fails_placed : (number : ℕ) (e : Stop RowWhy) (closed : List ClosedVariable) (kept : KeptRow) → Fails (why_of e) (leaves_of closed kept.places) → Fails (fault_of (error_of number e)) (at_record number (row_of closed kept))
+pub fails_placed : (number : ℕ) (e : Stop RowWhy) (closed : List ClosedVariable) (kept : KeptRow) → Fails (why_of e) (leaves_of closed kept.places) → Fails (row_fault_of (error_of number e)) (at_record number (row_of closed kept))
 unfolding row_of
 fails_placed number stop.Memory closed kept h = tt
 fails_placed number (stop.Fault why) closed kept h = rw h refl
@@ -42,8 +42,8 @@ front_next : (closed : List ClosedVariable) (front : List Row) (number : ℕ) (r
 unfolding rows_of
 front_next closed front number row next numbers rows said = rw said (regrouped front next (rows_of closed (kept_rows numbers rows)))
 
-front_stop : (e : RowError) (closed : List ClosedVariable) (front : List Row) (number : ℕ) (row : Row) (numbers : List ℕ) (rows : List Row) → Fails (fault_of e) (at_record number (row_of closed (kept_of number row)))
-    → Fails (fault_of e) (with_front front (rows_of closed (kept_rows (number ∷ numbers) (row ∷ rows))))
+front_stop : (e : RowError) (closed : List ClosedVariable) (front : List Row) (number : ℕ) (row : Row) (numbers : List ℕ) (rows : List Row) → Fails (row_fault_of e) (at_record number (row_of closed (kept_of number row)))
+    → Fails (row_fault_of e) (with_front front (rows_of closed (kept_rows (number ∷ numbers) (row ∷ rows))))
 unfolding rows_of
 front_stop row_error.Memory closed front number row numbers rows h = tt
 front_stop (row_error.At at why) closed front number row numbers rows h = rw h refl
@@ -66,8 +66,8 @@ placed_next closed numbers rows k number row next stand said =
     (front_next closed (take k rows) number row next (drop (k + 1) numbers) (drop (k + 1) rows) said
     ∙ rw (take_more_set rows k next stand.inside, drop-set-lt (k + 1) rows k next (omega arith)) refl)
 
-pub placed_stop : (e : RowError) (closed : List ClosedVariable) (numbers : List ℕ) (rows : List Row) (k number : ℕ) (row : Row) → StandAt numbers rows k number row → Fails (fault_of e) (at_record number (row_of closed (kept_of number row)))
-    → Fails (fault_of e) (placed_to closed numbers rows k)
+pub placed_stop : (e : RowError) (closed : List ClosedVariable) (numbers : List ℕ) (rows : List Row) (k number : ℕ) (row : Row) → StandAt numbers rows k number row → Fails (row_fault_of e) (at_record number (row_of closed (kept_of number row)))
+    → Fails (row_fault_of e) (placed_to closed numbers rows k)
 placed_stop e closed numbers rows k number row stand fails =
     rw (at_place numbers k number stand.beside stand.numbered, at_place rows k row stand.inside stand.there)
     (front_stop e closed (take k rows) number row (drop (k + 1) numbers) (drop (k + 1) rows) fails)

@@ -9,9 +9,9 @@ use Rattle.microdata.specs.declared.faults.RowError.{RowError}
 use Rattle.microdata.specs.declared.faults.RowError.TheVariants as row_error
 
 -- the fault for which microdata aren't read, behind the number of its record
-abbrev pub fault_of : RowError → Option (ℕ × RowWhy)
-fault_of row_error.Memory = None
-fault_of (row_error.At number why) = Some (number, why)
+abbrev pub row_fault_of : RowError → Option (ℕ × RowWhy)
+row_fault_of row_error.Memory = None
+row_fault_of (row_error.At number why) = Some (number, why)
 
 -- what a record gives, its fault behind the record's number
 abbrev pub at_record : {A : Type 0} → ℕ → Result A RowWhy → Result A (ℕ × RowWhy)

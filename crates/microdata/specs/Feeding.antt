@@ -12,7 +12,7 @@ use Rattle.microdata.specs.declared.faults.RowWhy.{RowWhy}
 use Rattle.microdata.specs.declared.faults.RowWhy.TheVariants.{TooLong}
 use Rattle.microdata.specs.declared.layout.Layout.{Layout}
 use Rattle.microdata.specs.declared.layout.Measures.{Measures}
-use Rattle.microdata.specs.declared.record.SoFar.{SoFar}
+use Rattle.microdata.specs.declared.record.ReaderProgress.{ReaderProgress}
 
 -- the bytes up to the last line feed
 abbrev pub up_to_last_feed : List ℕ → List ℕ
@@ -34,7 +34,7 @@ abbrev pub is_too_long : List ℕ → Bool
 is_too_long line = nat_lt 1000 (length (strip_carriage_return line))
 
 -- after these, what the lines say that have ended, and whether the line that has begun is too long
-unfoldable pub fed_says : Measures → SoFar → List ℕ → Result (Unit {0}) (ℕ × RowWhy)
+unfoldable pub fed_says : Measures → ReaderProgress → List ℕ → Result (Unit {0}) (ℕ × RowWhy)
 fed_says measures so_far bytes = do
   all ← lines_say measures so_far (ended_lines bytes)
   refuse (all.number + 1, TooLong) (is_too_long (begun_line bytes))
@@ -44,29 +44,29 @@ abbrev pub fed_of : Layout → List ℕ → Result (Unit {0}) (ℕ × RowWhy)
 fed_of layout bytes = fed_says (measures_of layout) (no_records layout) bytes
 
 -- after these, what all lines say
-abbrev pub all_says : Measures → SoFar → List ℕ → Result SoFar (ℕ × RowWhy)
+abbrev pub all_says : Measures → ReaderProgress → List ℕ → Result ReaderProgress (ℕ × RowWhy)
 all_says measures so_far bytes = lines_say measures so_far (lines bytes)
 
 -- what a reader keeps of the bytes
 pub record ReaderView : Type 0 where
   pub measures : Measures
-  pub so_far : SoFar
+  pub so_far : ReaderProgress
   pub begun : List ℕ
   pub error : Option RowError
 
 -- Whatever follows, the lines of these bytes with it say what those of the other bytes with it say after other records.
-pub record SaysAsFrom (measures : Measures) (first : SoFar) (bytes : List ℕ) (so_far : SoFar)
+pub record SaysAsFrom (measures : Measures) (first : ReaderProgress) (bytes : List ℕ) (so_far : ReaderProgress)
     (rest : List ℕ) : Type 0 where
   pub all : (more : List ℕ) → all_says measures first (bytes ++ more) ≡ all_says measures so_far (rest ++ more)
   pub fed : (more : List ℕ) → fed_says measures first (bytes ++ more) ≡ fed_says measures so_far (rest ++ more)
 
 -- Whatever follows, these bytes have this first fault.
-pub record HasFault (measures : Measures) (first : SoFar) (bytes : List ℕ) (fault : ℕ × RowWhy) : Type 0 where
+pub record HasFault (measures : Measures) (first : ReaderProgress) (bytes : List ℕ) (fault : ℕ × RowWhy) : Type 0 where
   pub all : (more : List ℕ) → all_says measures first (bytes ++ more) ≡ Err fault
   pub fed : (more : List ℕ) → fed_says measures first (bytes ++ more) ≡ Err fault
 
 -- what was kept of these bytes, by the error that was answered; after want of memory nothing is said
-abbrev pub IsKeptOf : Option RowError → Measures → SoFar → List ℕ → SoFar → List ℕ → Type 0
+abbrev pub IsKeptOf : Option RowError → Measures → ReaderProgress → List ℕ → ReaderProgress → List ℕ → Type 0
 IsKeptOf None measures first bytes so_far rest = SaysAsFrom measures first bytes so_far rest
 IsKeptOf (Some row_error.Memory) measures first bytes so_far rest = Unit {0}
 IsKeptOf (Some (row_error.At number why)) measures first bytes so_far rest = HasFault measures first bytes (number, why)

@@ -11,7 +11,7 @@ use Rattle.microdata.specs.declared.faults.RowError.{RowError}
 use Rattle.microdata.specs.declared.layout.Measures.{Measures}
 use Rattle.microdata.specs.declared.layout.Source.{Source}
 use Rattle.microdata.specs.declared.layout.Source.TheVariants as source
-use Rattle.microdata.specs.declared.record.SoFar.{SoFar}
+use Rattle.microdata.specs.declared.record.ReaderProgress.{ReaderProgress}
 use Rattle.microdata.specs.declared.record.Variable.{Variable}
 use Rattle.microdata.specs.declared.taking.Seen.{Seen}
 
@@ -43,7 +43,7 @@ pub record IsVariable (needed : ℕ) (variable : Variable) : Type 0 where
   pub seen : AreSeen variable.field.source variable.seen
 
 -- the records so far
-pub record AreSoundRecords (measures : Measures) (so_far : SoFar) : Type 0 where
+pub record AreSoundRecords (measures : Measures) (so_far : ReaderProgress) : Type 0 where
   pub numbers : AreMeasures measures
   pub variables : All (IsVariable measures.needed) so_far.variables
   pub at_most_8_variables : length so_far.variables ≤ 8
@@ -51,7 +51,7 @@ pub record AreSoundRecords (measures : Measures) (so_far : SoFar) : Type 0 where
   pub skipped : so_far.skipped ≤ so_far.number
 
 -- before an error, the records so far are sound, and the line that has begun isn't too long
-abbrev pub IsReadyReader : Option RowError → Measures → SoFar → List ℕ → Type 0
+abbrev pub IsReadyReader : Option RowError → Measures → ReaderProgress → List ℕ → Type 0
 IsReadyReader None measures so_far begun =
     AreSoundRecords measures so_far × HasNoFeed begun × (is_too_long begun ≡ false)
 IsReadyReader (Some error) measures so_far begun = Unit {0}

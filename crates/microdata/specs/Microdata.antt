@@ -9,11 +9,11 @@ use Rattle.microdata.specs.OneRecord.{line_says, lines_say, no_records}
 use Rattle.microdata.specs.declared.faults.RowWhy.{RowWhy}
 use Rattle.microdata.specs.declared.layout.Layout.{Layout}
 use Rattle.microdata.specs.declared.layout.Measures.{Measures}
-use Rattle.microdata.specs.declared.record.SoFar.{SoFar}
+use Rattle.microdata.specs.declared.record.ReaderProgress.{ReaderProgress}
 use Rattle.microdata.specs.declared.records.Records.{Records}
 
 -- the closing look: the trees, and the records with their places in these
-unfoldable pub closed_records : SoFar → Result Records (ℕ × RowWhy)
+unfoldable pub closed_records : ReaderProgress → Result Records (ℕ × RowWhy)
 closed_records so_far = do
   rows ← rows_of (map closed_of so_far.variables) so_far.rows
   Ok (record {
@@ -23,7 +23,7 @@ closed_records so_far = do
   })
 
 -- the records behind these and a last line
-unfoldable pub records_behind : Measures → SoFar → List ℕ → Result Records (ℕ × RowWhy)
+unfoldable pub records_behind : Measures → ReaderProgress → List ℕ → Result Records (ℕ × RowWhy)
 records_behind measures so_far last = do
   all ← line_says measures so_far last
   closed_records all

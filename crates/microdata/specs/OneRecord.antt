@@ -7,7 +7,7 @@ use Rattle.microdata.specs.declared.faults.RowWhy.TheVariants.{TooLong, TooMany,
 use Rattle.microdata.specs.declared.layout.Layout.{Layout}
 use Rattle.microdata.specs.declared.layout.Measures.{Measures}
 use Rattle.microdata.specs.declared.record.Variable.{Variable}
-use Rattle.microdata.specs.declared.record.SoFar.{SoFar}
+use Rattle.microdata.specs.declared.record.ReaderProgress.{ReaderProgress}
 use Rattle.microdata.specs.Faults.{at_record}
 use Rattle.microdata.specs.Fields.{field, has_no_response, value_of, weight_of}
 use Rattle.microdata.specs.KeptRows.{KeptRow}
@@ -28,7 +28,7 @@ variables_say (variable ∷ variables) line = do
   Ok (one.0 ∷ rest.0, one.1 ∷ rest.1)
 
 -- one record more, which is skipped
-abbrev pub with_skipped : SoFar → SoFar
+abbrev pub with_skipped : ReaderProgress → ReaderProgress
 with_skipped so_far =
     record {
       variables = so_far.variables;
@@ -38,7 +38,7 @@ with_skipped so_far =
     }
 
 -- one record more, with these variables and this row
-abbrev pub with_row : SoFar → List Variable → KeptRow → SoFar
+abbrev pub with_row : ReaderProgress → List Variable → KeptRow → ReaderProgress
 with_row so_far variables row =
     record {
       variables = variables;
@@ -48,7 +48,7 @@ with_row so_far variables row =
     }
 
 -- a record with a response: the response, the weight, and the codes in the order of the variables
-unfoldable pub response_says : Measures → SoFar → List ℕ → Result SoFar RowWhy
+unfoldable pub response_says : Measures → ReaderProgress → List ℕ → Result ReaderProgress RowWhy
 response_says measures so_far line = do
   value ← value_of measures.response line
   weight ← weight_of measures.weight line
@@ -62,7 +62,7 @@ response_says measures so_far line = do
 
 -- a record: at most 1,000 bytes, the 1,000,000th at most, and as long as its fields want; without a response it is
 -- skipped
-unfoldable pub record_says : Measures → SoFar → List ℕ → Result SoFar RowWhy
+unfoldable pub record_says : Measures → ReaderProgress → List ℕ → Result ReaderProgress RowWhy
 record_says measures so_far line = do
   long ← refuse TooLong (nat_lt 1000 (length line))
   many ← refuse TooMany (nat_le 1000000 so_far.number)
@@ -70,19 +70,19 @@ record_says measures so_far line = do
   if has_no_response measures.response line then Ok (with_skipped so_far) else response_says measures so_far line
 
 -- A line: a record where it has a byte, and else nothing. Not: a line of blanks as nothing, which is a record.
-abbrev pub line_says : Measures → SoFar → List ℕ → Result SoFar (ℕ × RowWhy)
+abbrev pub line_says : Measures → ReaderProgress → List ℕ → Result ReaderProgress (ℕ × RowWhy)
 line_says measures so_far [] = Ok so_far
 line_says measures so_far (b ∷ line) = at_record (so_far.number + 1) (record_says measures so_far (b ∷ line))
 
 -- the lines in their order, each after those before it
-unfoldable pub lines_say : Measures → SoFar → List (List ℕ) → Result SoFar (ℕ × RowWhy)
+unfoldable pub lines_say : Measures → ReaderProgress → List (List ℕ) → Result ReaderProgress (ℕ × RowWhy)
 lines_say measures so_far [] = Ok so_far
 lines_say measures so_far (line ∷ lines) = do
   next ← line_says measures so_far line
   lines_say measures next lines
 
 -- before the first record
-abbrev pub no_records : Layout → SoFar
+abbrev pub no_records : Layout → ReaderProgress
 no_records layout = record {
   variables = map (λ field. record { field = field; seen = seen_first field.source }) layout.spanning;
   rows = [];

@@ -8,7 +8,7 @@ ghost use Rattle.sdc_base.specs.Answers.{Gives};
 ghost use Rattle.microdata.specs.Closing.{closed_of, tree_of, places_in};
 ghost use Rattle.microdata.specs.Closing as closing;
 ghost use Rattle.plain_text.specs.Stops.{why_of};
-ghost use Rattle.microdata.specs.Faults.{fault_of, at_record};
+ghost use Rattle.microdata.specs.Faults.{row_fault_of, at_record};
 ghost use Rattle.microdata.specs.Keeping.{AreSeen, AreSoundRecords, IsVariable};
 ghost use Rattle.microdata.specs.KeptRows.{kept_of};
 ghost use Rattle.microdata.specs.Layouts.{IsSource};
@@ -17,7 +17,7 @@ ghost use Rattle.microdata.specs.Microdata.{closed_records};
 use crate::faults::{RowError, RowWhy, error_at};
 use crate::kept_rows::KeptRows;
 use crate::layout::Source;
-use crate::record::{SoFar, Variable, Variables};
+use crate::record::{ReaderProgress, Variable, Variables};
 use crate::records::Records;
 use crate::taking::Seen;
 use arrayvec::ArrayVec;
@@ -37,11 +37,11 @@ pub(crate) struct ClosedVariable {
 /// The records with the places of their codes, or the first one with a code that has others below it. It takes one
 /// pass over the records, and a look-up for each code that they brought.
 #[tactic(auto, unfolding(crate::specs::Microdata::closed_records))]
-pub(crate) fn close(alloc: Global, so_far: SoFar) -> Result<Records, RowError>
+pub(crate) fn close(alloc: Global, so_far: ReaderProgress) -> Result<Records, RowError>
     requires variables { All (λ variable. IsSource variable.field.source) so_far.variables }
     requires seen { All (λ variable. AreSeen variable.field.source variable.seen) so_far.variables }
     requires at_most_8 { length so_far.variables ≤ 8 }
-    ensures exact { Gives fault_of (λ records. records) result (closed_records so_far) }
+    ensures exact { Gives row_fault_of (λ records. records) result (closed_records so_far) }
     ensures trees { IfOk result (λ records. AllByRecursion IsCodeTree records.trees) }
 {
     let closed = closed_variables(alloc, so_far.variables)?;
@@ -138,7 +138,7 @@ fn trees_of(alloc: Global, closed: Items<ClosedVariable>) -> Result<Items<CodeTr
 // that has others below it.
 fn rows_of(closed: &[ClosedVariable], kept: KeptRows) -> Result<Items<Row>, RowError>
     requires at_most_8 { length closed.now ≤ 8 }
-    ensures { Gives fault_of (λ rows. rows) result (closing.rows_of closed.now kept) }
+    ensures { Gives row_fault_of (λ rows. rows) result (closing.rows_of closed.now kept) }
 {
     let (numbers, mut rows) = kept.into_parts();
     let mut k = 0;
@@ -153,7 +153,7 @@ fn rows_of(closed: &[ClosedVariable], kept: KeptRows) -> Result<Items<Row>, RowE
 #[tactic(auto, unfolding(crate::specs::Closing::row_of), using(crate::proofs::RowsPlaced::fails_placed))]
 fn place_codes(closed: &[ClosedVariable], number: u32, row: &mut Row) -> Result<(), RowError>
     requires at_most_8 { length closed.now ≤ 8 }
-    ensures { Gives fault_of (λ _. row.new) result
+    ensures { Gives row_fault_of (λ _. row.new) result
         (at_record number (closing.row_of closed.now (kept_of number row.old))) }
 {
     match leaves_of(closed, row.codes.as_slice()) {

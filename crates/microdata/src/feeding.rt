@@ -6,7 +6,7 @@ ghost use Rattle.microdata.specs.Keeping.{AreSoundRecords};
 
 use crate::faults::{RowError, RowWhy};
 use crate::layout::Measures;
-use crate::record::{MOST_BYTES, SoFar, take_line};
+use crate::record::{MOST_BYTES, ReaderProgress, take_line};
 use plain_text::{cut_at, without_return};
 use std::alloc::Global;
 
@@ -14,7 +14,7 @@ use std::alloc::Global;
 pub(crate) fn take_bytes(
     alloc: Global,
     measures: &Measures,
-    so_far: &mut SoFar,
+    so_far: &mut ReaderProgress,
     begun: &mut Vec<u8>,
     piece: &[u8],
 ) -> Result<(), RowError>
@@ -54,7 +54,7 @@ fn ended_line(bytes: &[u8]) -> Option<(&[u8], &[u8])>
 fn end_line(
     alloc: Global,
     measures: &Measures,
-    so_far: &mut SoFar,
+    so_far: &mut ReaderProgress,
     begun: &mut Vec<u8>,
     bytes: &[u8],
 ) -> Result<(), RowError>
@@ -82,7 +82,7 @@ fn end_line(
 fn take_ended(
     alloc: Global,
     measures: &Measures,
-    so_far: &mut SoFar,
+    so_far: &mut ReaderProgress,
     line: &[u8],
 ) -> Result<(), RowError>
     requires sound { AreSoundRecords measures.now so_far.old }

@@ -1,6 +1,6 @@
 ghost use Rattle.std.specs.Prelude.{◌≡◌, flat_map};
 ghost use Rattle.sdc_base.specs.Answers.{Gives};
-ghost use Rattle.microdata.specs.Faults.{fault_of};
+ghost use Rattle.microdata.specs.Faults.{row_fault_of};
 ghost use Rattle.microdata.specs.Layouts.{IsLayout};
 ghost use Rattle.microdata.specs.Microdata.{records_of};
 
@@ -17,7 +17,8 @@ use std::alloc::Global;
 /// are the refusals, the cost and the source of the rules.
 pub fn read_pieces(alloc: Global, layout: Layout, pieces: &[Text]) -> Result<Records, RowError>
     requires { IsLayout layout }
-    ensures { Gives fault_of (λ records. records) result (records_of layout (flat_map (λ piece. piece) pieces.now)) }
+    ensures { Gives row_fault_of (λ records. records) result
+        (records_of layout (flat_map (λ piece. piece) pieces.now)) }
 {
     let mut reader = Reader::new(alloc, layout)?;
     'pieces: for piece in pieces {

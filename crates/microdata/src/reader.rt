@@ -8,7 +8,7 @@ ghost use Rattle.microdata.specs.SeenCodes.{seen_first};
 ghost use Rattle.microdata.specs.Layouts.{IsSource, IsField};
 ghost use Rattle.std.specs.Prelude.{◌≡◌, ◌+◌, ◌++◌, ℕ, List, [], All, map, None, Some, Ok, Err, IfOk, IfErr, OnOk};
 ghost use Rattle.sdc_base.specs.Answers.{Gives};
-ghost use Rattle.microdata.specs.Faults.{fault_of};
+ghost use Rattle.microdata.specs.Faults.{row_fault_of};
 ghost use Rattle.microdata.specs.Layouts.{IsLayout};
 ghost use Rattle.microdata.specs.Microdata.{records_of, records_behind};
 ghost use Rattle.microdata.specs.Feeding.{HasRead, fed_of, answered_error};
@@ -20,7 +20,7 @@ use crate::faults::RowError;
 use crate::feeding::take_bytes;
 use crate::kept_rows::KeptRows;
 use crate::layout::{Field, Layout, Measures, Source};
-use crate::record::{SoFar, Variable, Variables, take_line};
+use crate::record::{ReaderProgress, Variable, Variables, take_line};
 use crate::records::Records;
 use crate::taking::Seen;
 use code_trees::CodeSet;
@@ -35,7 +35,7 @@ use std::marker::Model;
 pub struct Reader {
     alloc: Global,
     measures: Measures,
-    so_far: SoFar,
+    so_far: ReaderProgress,
     begun: Vec<u8>,
     error: Option<RowError>,
 }
@@ -72,7 +72,7 @@ impl Reader {
                 weight: layout.weight,
                 needed: layout.needed,
             },
-            so_far: SoFar {
+            so_far: ReaderProgress {
                 variables: Variables::new(variables),
                 rows: KeptRows::empty(alloc),
                 number: 0,
@@ -96,7 +96,7 @@ impl Reader {
         ensures fed { (layout : AnyLayout) (bytes : List ℕ) → HasRead self.old layout bytes
             → HasRead self.new layout (bytes ++ piece.now) }
         ensures exact { (layout : AnyLayout) (bytes : List ℕ) → HasRead self.old layout bytes
-            → Gives fault_of (λ fine. fine) result (fed_of layout (bytes ++ piece.now)) }
+            → Gives row_fault_of (λ fine. fine) result (fed_of layout (bytes ++ piece.now)) }
         ensures again { ForSome (answered_error self.old) (λ error. result ≡ Err error) }
         ensures kept { IfErr result (λ error. answered_error self.new ≡ Some error) }
         ensures going { IfOk result (λ _. answered_error self.new ≡ None) }
@@ -126,7 +126,7 @@ impl Reader {
     /// It takes a pass over the records, and a few look-ups for each distinct code.
     pub fn finish(self) -> Result<Records, RowError>
         ensures exact { (layout : AnyLayout) (bytes : List ℕ) → HasRead self layout bytes
-            → Gives fault_of (λ records. records) result (records_of layout bytes) }
+            → Gives row_fault_of (λ records. records) result (records_of layout bytes) }
         ensures again { ForSome (answered_error self) (λ error. result ≡ Err error) }
         ensures trees { IfOk result (λ records. AllByRecursion IsCodeTree records.trees) }
     {
@@ -149,12 +149,12 @@ impl Reader {
 fn read_out(
     alloc: Global,
     measures: &Measures,
-    so_far: SoFar,
+    so_far: ReaderProgress,
     last: &[u8],
 ) -> Result<Records, RowError>
     requires sound { AreSoundRecords measures.now so_far }
     requires plain { HasNoFeed last.now }
-    ensures exact { Gives fault_of (λ records. records) result (records_behind measures.now so_far last.now) }
+    ensures exact { Gives row_fault_of (λ records. records) result (records_behind measures.now so_far last.now) }
     ensures trees { IfOk result (λ records. AllByRecursion IsCodeTree records.trees) }
 {
     let mut so_far = so_far;

@@ -1,7 +1,7 @@
 ghost use Rattle.std.specs.Prelude.{◌≡◌, ◌+◌, ◌<◌, ◌≤◌, ◌^◌, All, length, pos, OnOk};
 ghost use Rattle.sdc_base.specs.Answers.{Gives};
 ghost use Rattle.plain_text.specs.Stops.{why_of};
-ghost use Rattle.microdata.specs.Faults.{fault_of, at_record};
+ghost use Rattle.microdata.specs.Faults.{row_fault_of, at_record};
 ghost use Rattle.microdata.specs.Fields as spec;
 ghost use Rattle.microdata.specs.Keeping.{IsVariable, AreSoundRecords};
 ghost use Rattle.microdata.specs.OneRecord.{line_says, record_says, response_says, variable_says, variables_say, with_skipped};
@@ -76,7 +76,7 @@ impl Variables {
 
 /// What the records so far say.
 #[derive(Drop)]
-pub(crate) struct SoFar {
+pub(crate) struct ReaderProgress {
     pub variables: Variables,
     pub rows: KeptRows,
     pub number: u64,
@@ -89,11 +89,11 @@ pub(crate) struct SoFar {
 pub(crate) fn take_line(
     alloc: Global,
     measures: &Measures,
-    so_far: &mut SoFar,
+    so_far: &mut ReaderProgress,
     line: &[u8],
 ) -> Result<(), RowError>
     requires { AreSoundRecords measures.now so_far.old }
-    ensures said { Gives fault_of (λ _. so_far.new) result (line_says measures.now so_far.old line.now) }
+    ensures said { Gives row_fault_of (λ _. so_far.new) result (line_says measures.now so_far.old line.now) }
     ensures sound { OnOk result (AreSoundRecords measures.now so_far.new) }
 {
     if line.is_empty() {
@@ -111,7 +111,7 @@ pub(crate) fn take_line(
 fn take_record(
     alloc: Global,
     measures: &Measures,
-    so_far: &mut SoFar,
+    so_far: &mut ReaderProgress,
     line: &[u8],
 ) -> Result<(), Stop<RowWhy>>
     requires { AreSoundRecords measures.now so_far.old }
@@ -141,7 +141,7 @@ fn take_record(
 fn take_response(
     alloc: Global,
     measures: &Measures,
-    so_far: &mut SoFar,
+    so_far: &mut ReaderProgress,
     text: &[u8],
     line: &[u8],
 ) -> Result<(), Stop<RowWhy>>

@@ -6,7 +6,7 @@ use Rattle.office_io.specs.Files.{held_name}
 use Rattle.office_io.specs.Shelves.{ShelfState}
 
 -- these are all bytes of the file of this name, at most as many as the limit, and all were taken
-pub record IsWhole (name : List ℕ) (limit : ℕ) (bytes : List ℕ) (old new : ShelfState) : Type 0 where
+pub record IsWholeFile (name : List ℕ) (limit : ℕ) (bytes : List ℕ) (old new : ShelfState) : Type 0 where
   pub file : WhereTold old.files (λ fs. fs name ≡ Some bytes)
   pub short : length bytes ≤ limit
   pub taken : new.taken ≡ length bytes

@@ -2,7 +2,7 @@ ghost use Rattle.std.specs.Prelude.{◌≡◌, ◌≢◌, ◌+◌, ◌^◌, ◌�
 ghost use Rattle.sdc_base.specs.Counts.{HasRisen};
 ghost use Rattle.sdc_base.specs.WhereTold.{WhereTold};
 ghost use Rattle.office_io.specs.Shelves.{HasOnlyRead};
-ghost use Rattle.office_io.specs.Reading.{IsWhole, IsAbsent, IsTooLong, HasLookedFor};
+ghost use Rattle.office_io.specs.Reading.{IsWholeFile, IsAbsent, IsTooLong, HasLookedFor};
 
 use crate::faults::{BeginFault, FileFault};
 use crate::shelf::Shelf;
@@ -26,7 +26,7 @@ pub fn read_all<S: Shelf>(
     limit: u64,
 ) -> Result<Vec<u8>, FileFault>
     requires { limit < 2 ^ 62 }
-    ensures whole_file { IfOk result (λ bytes. IsWhole name.now limit bytes.items (S.state shelf.old)
+    ensures whole_file { IfOk result (λ bytes. IsWholeFile name.now limit bytes.items (S.state shelf.old)
         (S.state shelf.new)) }
     ensures absent { IsErrOf result FileFault.Absent → IsAbsent name.now (S.state shelf.old) (S.state shelf.new) }
     ensures failed { IsErrOf result FileFault.Failed → HasRisen (S.state shelf.old).faults (S.state shelf.new).faults }

@@ -1,6 +1,6 @@
 -- The prior-posterior rule of 100 percent is the p-percent rule.
 use Rattle.std.proofs.Common.{◌≡◌, ℕ, ◌++◌, List, [], ◌∷◌, option_map, refl, ap}
-use Rattle.sdc_base.specs.RuleLevels.{Figures, names, wanted_level, rounded_up, greater_number, upper_of, levels_up_to}
+use Rattle.sdc_base.specs.RuleLevels.{Figures, is_sensitive_by, wanted_level, rounded_up, greater_number, upper_of, levels_up_to}
 use Rattle.sdc_base.specs.declared.rule.Rule.{Rule}
 use Rattle.sdc_base.specs.declared.rule.Rule.TheVariants as rule
 use Rattle.primary_rules.specs.PriorPosterior.{IsPercentOfHundred}

@@ -8,7 +8,7 @@ use Rattle.sdc_base.proofs.WholeNumbers.{times_up}
 use Rattle.sdc_base.specs.declared.tops.Unit.{Unit as Contribution}
 use Rattle.sdc_base.specs.Largest.{with_contribution, ranking_of, first_steps}
 use Rattle.sdc_base.specs.Shares.{weight_from}
-use Rattle.sdc_base.specs.RuleLevels.{Figures, names, rest_beside_two}
+use Rattle.sdc_base.specs.RuleLevels.{Figures, is_sensitive_by, rest_beside_two}
 use Rattle.sdc_base.specs.declared.rule.Rule.TheVariants as rule
 use Rattle.primary_rules.specs.Contributors.{figures_of, FurtherIsNotNamed}
 use Rattle.primary_rules.proofs.Stricter.{times_of}
@@ -122,7 +122,7 @@ adds_itself n (x ∷ xs) new all here =
 
 -- the largest stays, and the rest grows
 no_more : (p q scale : ℕ) (units : List Contribution) (new : Contribution) → All (λ unit. pos 0 ≤ℤ unit.value) units → pos 0 ≤ℤ new.value → scale ≤ weight_from new.value units
-    → IsTrue (names (rule.Pq p q) (figures_of (units ++ new ∷ []) scale)) → IsTrue (names (rule.Pq p q) (figures_of units scale))
+    → IsTrue (is_sensitive_by (rule.Pq p q) (figures_of (units ++ new ∷ []) scale)) → IsTrue (is_sensitive_by (rule.Pq p q) (figures_of units scale))
 no_more p q scale units new all here full named =
     let before : Figures = figures_of units scale in
     let after : Figures = figures_of (units ++ new ∷ []) scale in

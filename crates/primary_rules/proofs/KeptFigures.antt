@@ -1,6 +1,6 @@
 -- The rules look at no more contributions than they say.
 use Rattle.std.proofs.Common.{◌≡◌, ℕ, ◌≤◌, max, List, [], ◌∷◌, fold, arith, refl, ap}
-use Rattle.sdc_base.specs.RuleLevels.{Figures, names, wanted_level, upper_of, level_of, keep_of, looks_at, figures_of_facts, figures_in}
+use Rattle.sdc_base.specs.RuleLevels.{Figures, is_sensitive_by, wanted_level, upper_of, level_of, keep_of, looks_at, figures_of_facts, figures_in}
 use Rattle.sdc_base.specs.Trees.{Tree}
 use Rattle.sdc_base.specs.Records.{Name}
 use Rattle.sdc_base.specs.Largest.{contributions}
@@ -16,8 +16,8 @@ from_start most [] = omega arith
 from_start most (one ∷ rules) = omega (arith, from_start (max most (looks_at one)) rules)
 
 -- one rule says the same of both
-same_names : (kept : ℕ) (one : Rule) (cell other : Figures) → 2 ≤ kept → looks_at one ≤ kept → AgreeUpTo kept cell other → names one cell ≡ names one other
-same_names kept (rule.Freq n r) cell other two looks same = ap (λ f. names (rule.Freq n r) (record cell { freq = f })) same.freq
+same_names : (kept : ℕ) (one : Rule) (cell other : Figures) → 2 ≤ kept → looks_at one ≤ kept → AgreeUpTo kept cell other → is_sensitive_by one cell ≡ is_sensitive_by one other
+same_names kept (rule.Freq n r) cell other two looks same = ap (λ f. is_sensitive_by (rule.Freq n r) (record cell { freq = f })) same.freq
 same_names kept (rule.Nk n k) cell other two looks same = rw (same.truth, same.largest n looks) refl
 same_names kept (rule.Percent p) cell other two looks same = rw (same.truth, same.largest 1 (omega arith), same.largest 2 two) refl
 same_names kept (rule.Pq p q) cell other two looks same = rw (same.truth, same.largest 1 (omega arith), same.largest 2 two) refl
@@ -36,7 +36,7 @@ same_upper kept most (one ∷ rules) cell other two enough same =
     let next : ℕ = max most (looks_at one) in
     let start : next ≤ fold (λ most one. max most (looks_at one)) next rules = from_start next rules in
     let rest : upper_of rules cell ≡ upper_of rules other = same_upper kept next rules cell other (omega arith) enough same in
-    let naming : names one cell ≡ names one other = same_names kept one cell other (omega arith) (omega arith) same in
+    let naming : is_sensitive_by one cell ≡ is_sensitive_by one other = same_names kept one cell other (omega arith) (omega arith) same in
     let wanting : wanted_level one cell ≡ wanted_level one other = same_wanted kept one cell other (omega arith) (omega arith) same in
     rw (naming, wanting, rest) refl
 

@@ -3,7 +3,7 @@ use Rattle.std.proofs.Common.{◌≡◌, suc, true, false, IsTrue, List, [], ◌
 use Rattle.std.specs.List.{Any}
 use Rattle.std.proofs.lemmas.Int.{ints}
 use Rattle.std.proofs.lemmas.List.Elements.{All-head, All-tail, All-cons, All-nil}
-use Rattle.sdc_base.specs.RuleLevels.{Figures, names, wanted_level, rounded_up, greater_number, upper_of, levels_up_to}
+use Rattle.sdc_base.specs.RuleLevels.{Figures, is_sensitive_by, wanted_level, rounded_up, greater_number, upper_of, levels_up_to}
 use Rattle.sdc_base.specs.declared.facts.Levels.{Levels}
 use Rattle.sdc_base.specs.declared.rule.Rule.{Rule}
 use Rattle.sdc_base.specs.declared.rule.Rule.TheVariants as rule
@@ -24,19 +24,19 @@ any_tail {P} x xs (k, y, within, is, here) = (suc k, y, omega arith, is, here)
 
 -- ---- none
 
-none_up : (rules : List Rule) (cell : Figures) → upper_of rules cell ≡ None → All (λ one. names one cell ≡ false) rules
-none_up [] cell h = All-nil (λ one. names one cell ≡ false)
+none_up : (rules : List Rule) (cell : Figures) → upper_of rules cell ≡ None → All (λ one. is_sensitive_by one cell ≡ false) rules
+none_up [] cell h = All-nil (λ one. is_sensitive_by one cell ≡ false)
 none_up (one ∷ rules) cell h =
-    elim (names one cell) as (λ b. names one cell ≡ b → (if b then Some (greater_number (rounded_up (wanted_level one cell)) (upper_of rules cell)) else upper_of rules cell) ≡ None → All (λ r. names r cell ≡ false) (one ∷ rules)) [
+    elim (is_sensitive_by one cell) as (λ b. is_sensitive_by one cell ≡ b → (if b then Some (greater_number (rounded_up (wanted_level one cell)) (upper_of rules cell)) else upper_of rules cell) ≡ None → All (λ r. is_sensitive_by r cell ≡ false) (one ∷ rules)) [
       | true ↦ λ is some. absurd (grind (arith, some))
-      | false ↦ λ is rest. All-cons (λ r. names r cell ≡ false) one rules is (none_up rules cell rest)
+      | false ↦ λ is rest. All-cons (λ r. is_sensitive_by r cell ≡ false) one rules is (none_up rules cell rest)
     ] refl h
 
-up_none : (rules : List Rule) (cell : Figures) → All (λ one. names one cell ≡ false) rules → upper_of rules cell ≡ None
+up_none : (rules : List Rule) (cell : Figures) → All (λ one. is_sensitive_by one cell ≡ false) rules → upper_of rules cell ≡ None
 up_none [] cell all = refl
 up_none (one ∷ rules) cell all =
-    let is : names one cell ≡ false = All-head (λ r. names r cell ≡ false) one rules all in
-    rw is (up_none rules cell (All-tail (λ r. names r cell ≡ false) one rules all))
+    let is : is_sensitive_by one cell ≡ false = All-head (λ r. is_sensitive_by r cell ≡ false) one rules all in
+    rw is (up_none rules cell (All-tail (λ r. is_sensitive_by r cell ≡ false) one rules all))
 
 no_levels : (truth : ℤ) (up : Option ℤ) → option_map (levels_up_to truth) up ≡ None → up ≡ None
 no_levels truth None h = refl
@@ -50,22 +50,22 @@ none_where_none_names rules cell =
 
 -- what a rule wants that names the cell is no more than this
 abbrev AtMost : Figures → ℤ → Rule → Type 0
-AtMost cell level one = IsTrue (names one cell) → rounded_up (wanted_level one cell) ≤ℤ level
+AtMost cell level one = IsTrue (is_sensitive_by one cell) → rounded_up (wanted_level one cell) ≤ℤ level
 
 -- the rule names the cell and wants this
 abbrev WantsIt : Figures → ℤ → Rule → Type 0
-WantsIt cell level one = IsTrue (names one cell) × (level ≡ rounded_up (wanted_level one cell))
+WantsIt cell level one = IsTrue (is_sensitive_by one cell) × (level ≡ rounded_up (wanted_level one cell))
 
 record IsMost (rules : List Rule) (cell : Figures) (level : ℤ) : Type 0 where
   by_one : Any (WantsIt cell level) rules
   most : All (AtMost cell level) rules
 
 -- no rule of these names the cell
-all_silent : (rules : List Rule) (cell : Figures) (level : ℤ) → All (λ one. names one cell ≡ false) rules → All (AtMost cell level) rules
+all_silent : (rules : List Rule) (cell : Figures) (level : ℤ) → All (λ one. is_sensitive_by one cell ≡ false) rules → All (AtMost cell level) rules
 all_silent [] cell level all = All-nil (AtMost cell level)
 all_silent (one ∷ rules) cell level all =
-    let is : names one cell ≡ false = All-head (λ r. names r cell ≡ false) one rules all in
-    All-cons (AtMost cell level) one rules (λ named. absurd (grind (arith, is, named))) (all_silent rules cell level (All-tail (λ r. names r cell ≡ false) one rules all))
+    let is : is_sensitive_by one cell ≡ false = All-head (λ r. is_sensitive_by r cell ≡ false) one rules all in
+    All-cons (AtMost cell level) one rules (λ named. absurd (grind (arith, is, named))) (all_silent rules cell level (All-tail (λ r. is_sensitive_by r cell ≡ false) one rules all))
 
 raised : (rules : List Rule) (cell : Figures) (level more : ℤ) → level ≤ℤ more → All (AtMost cell level) rules → All (AtMost cell more) rules
 raised [] cell level more h all = All-nil (AtMost cell more)
@@ -73,17 +73,17 @@ raised (one ∷ rules) cell level more h all =
     All-cons (AtMost cell more) one rules (λ named. omega (arith, ints, h, All-head (AtMost cell level) one rules all named)) (raised rules cell level more h (All-tail (AtMost cell level) one rules all))
 
 -- one more rule, which names the cell
-with_own : (one : Rule) (rules : List Rule) (cell : Figures) (rest : Option ℤ) → names one cell ≡ true → upper_of rules cell ≡ rest → ((level : ℤ) → rest ≡ Some level → IsMost rules cell level) → IsMost (one ∷ rules) cell (greater_number (rounded_up (wanted_level one cell)) rest)
+with_own : (one : Rule) (rules : List Rule) (cell : Figures) (rest : Option ℤ) → is_sensitive_by one cell ≡ true → upper_of rules cell ≡ rest → ((level : ℤ) → rest ≡ Some level → IsMost rules cell level) → IsMost (one ∷ rules) cell (greater_number (rounded_up (wanted_level one cell)) rest)
 with_own one rules cell None is none before =
     let own : ℤ = rounded_up (wanted_level one cell) in
-    let named : IsTrue (names one cell) = grind (arith, is) in
+    let named : IsTrue (is_sensitive_by one cell) = grind (arith, is) in
     record {
       by_one = any_head {P = WantsIt cell own} one rules (named, refl);
       most = All-cons (AtMost cell own) one rules (λ _. omega (arith, ints)) (all_silent rules cell own (none_up rules cell none));
     }
 with_own one rules cell (Some level) is some before =
     let own : ℤ = rounded_up (wanted_level one cell) in
-    let named : IsTrue (names one cell) = grind (arith, is) in
+    let named : IsTrue (is_sensitive_by one cell) = grind (arith, is) in
     let rest : IsMost rules cell level = before level refl in
     elim (int_lt own level) as (λ b. int_lt own level ≡ b → IsMost (one ∷ rules) cell (if b then level else own)) [
       | true ↦ λ less. record {
@@ -103,7 +103,7 @@ is_most : (rules : List Rule) (cell : Figures) (level : ℤ) → upper_of rules 
 is_most [] cell level h = absurd (grind (arith, h))
 is_most (one ∷ rules) cell level h =
     let rest : Option ℤ = upper_of rules cell in
-    elim (names one cell) as (λ b. names one cell ≡ b → (if b then Some (greater_number (rounded_up (wanted_level one cell)) rest) else rest) ≡ Some level → IsMost (one ∷ rules) cell level) [
+    elim (is_sensitive_by one cell) as (λ b. is_sensitive_by one cell ≡ b → (if b then Some (greater_number (rounded_up (wanted_level one cell)) rest) else rest) ≡ Some level → IsMost (one ∷ rules) cell level) [
       | true ↦ λ is some. subst (λ n. IsMost (one ∷ rules) cell n) (same_some (greater_number (rounded_up (wanted_level one cell)) rest) level some) (with_own one rules cell rest is refl (λ n. is_most rules cell n))
       | false ↦ λ is some.
           let before : IsMost rules cell level = is_most rules cell level some in

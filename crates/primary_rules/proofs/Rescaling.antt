@@ -6,7 +6,7 @@ use Rattle.std.proofs.lemmas.Int.{ints, by_lt_z}
 use Rattle.std.proofs.Math.IntN.{*ℤ_comm}
 use Rattle.std.proofs.lemmas.List.Elements.{All-head, All-tail}
 use Rattle.sdc_base.proofs.WholeNumbers.{distrib, swap_times, minus_times, times_up, times_more}
-use Rattle.sdc_base.specs.RuleLevels.{Figures, fraction_of, names, rest_beside_two, wanted_level, rounded_up, IsRoundedUp, greater_number, upper_of, levels_up_to, level_of}
+use Rattle.sdc_base.specs.RuleLevels.{Figures, fraction_of, is_sensitive_by, rest_beside_two, wanted_level, rounded_up, IsRoundedUp, greater_number, upper_of, levels_up_to, level_of}
 use Rattle.sdc_base.specs.declared.rule.Rule.{Rule}
 use Rattle.sdc_base.specs.declared.rule.Rule.TheVariants as rule
 use Rattle.primary_rules.specs.Ranges.{IsInRange}
@@ -121,7 +121,7 @@ zero_rescaled t (pos zero) h = let none : pos t *ℤ pos 0 ≡ pos 0 = omega (ar
 zero_rescaled t (pos (suc n)) h = let more : (pos t *ℤ pos 0) <ℤ (pos t *ℤ pos (suc n)) = times_more (pos t) (pos 0) (pos (suc n)) (omega (arith, ints, h)) (omega (arith, ints)) in apart (pos t *ℤ pos (suc n)) (λ is. omega (arith, ints, more, is)) ∙ sym (apart (pos (suc n)) (λ is. omega (arith, ints, is)))
 zero_rescaled t (negsuc n) h = let less : (pos t *ℤ negsuc n) <ℤ (pos t *ℤ pos 0) = times_more (pos t) (negsuc n) (pos 0) (omega (arith, ints, h)) (omega (arith, ints)) in apart (pos t *ℤ negsuc n) (λ is. omega (arith, ints, less, is)) ∙ sym (apart (negsuc n) (λ is. omega (arith, ints, is)))
 
-names_rescaled : (t : ℕ) (one : Rule) (cell other : Figures) → 1 ≤ t → IsRescaled t cell other → names (rule_in_units t one) other ≡ names one cell
+names_rescaled : (t : ℕ) (one : Rule) (cell other : Figures) → 1 ≤ t → IsRescaled t cell other → is_sensitive_by (rule_in_units t one) other ≡ is_sensitive_by one cell
 names_rescaled t (rule.Freq n r) cell other h are = rw are.freq refl
 names_rescaled t (rule.Nk n k) cell other h are =
     rw (are.truth, are.largest n, swap_times (pos k) (pos t) cell.truth, swap_times (pos 100) (pos t) (cell.largest n)) (less_rescaled t (pos k *ℤ cell.truth) (pos 100 *ℤ cell.largest n) h)
@@ -180,7 +180,7 @@ one_within t one cell other h range are =
     let high : ℤ = rounded_up (wanted_level (rule_in_units t one) other) in
     let within : IsWithinRounding t low high = wanted_within t one cell other h range are in
     subst (λ b. UpWithin t (up_by one cell) (if b then Some high else None)) (sym (names_rescaled t one cell other h are))
-    (elim (names one cell) as (λ b. UpWithin t (if b then Some low else None) (if b then Some high else None)) [ true ↦ within | false ↦ tt ])
+    (elim (is_sensitive_by one cell) as (λ b. UpWithin t (if b then Some low else None) (if b then Some high else None)) [ true ↦ within | false ↦ tt ])
 
 upper_within : (t : ℕ) (rules : List Rule) (cell other : Figures) → 1 ≤ t → All IsInRange rules → IsRescaled t cell other → UpWithin t (upper_of rules cell) (upper_of (map (rule_in_units t) rules) other)
 upper_within t [] cell other h ranges are = tt

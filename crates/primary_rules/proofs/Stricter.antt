@@ -3,7 +3,7 @@ use Rattle.std.proofs.Common.{◌≡◌, ℕ, ◌≤◌, ◌++◌, true, false, 
 use Rattle.std.proofs.lemmas.Int.{ints}
 use Rattle.std.proofs.Math.IntN.{*ℤ_comm}
 use Rattle.sdc_base.proofs.WholeNumbers.{distrib, times_up}
-use Rattle.sdc_base.specs.RuleLevels.{Figures, fraction_of, names, rest_beside_two, wanted_level, rounded_up, IsRoundedUp, greater_number, upper_of, levels_up_to}
+use Rattle.sdc_base.specs.RuleLevels.{Figures, fraction_of, is_sensitive_by, rest_beside_two, wanted_level, rounded_up, IsRoundedUp, greater_number, upper_of, levels_up_to}
 use Rattle.sdc_base.specs.declared.rule.Rule.{Rule}
 use Rattle.sdc_base.specs.declared.rule.Rule.TheVariants as rule
 use Rattle.primary_rules.specs.Ranges.{IsInRange}
@@ -121,10 +121,10 @@ one_rises : (one other : Rule) (cell : Figures) → IsInRange one → IsInRange 
 one_rises one other cell here there from stricter =
     let low : ℤ = rounded_up (wanted_level one cell) in
     let high : ℤ = rounded_up (wanted_level other cell) in
-    elim (names one cell) as (λ b. names one cell ≡ b → RisesTo (if b then Some low else None) (up_by other cell)) [
+    elim (is_sensitive_by one cell) as (λ b. is_sensitive_by one cell ≡ b → RisesTo (if b then Some low else None) (up_by other cell)) [
       | true ↦ λ is.
           let more = stricter_wants_more one other cell here there from stricter (grind (arith, is)) in
-          let named : names other cell ≡ true = grind (arith, more.0) in
+          let named : is_sensitive_by other cell ≡ true = grind (arith, more.0) in
           rw named more.1
       | false ↦ λ is. tt
     ] refl

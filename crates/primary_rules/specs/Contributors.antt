@@ -3,7 +3,7 @@
 use Rattle.std.specs.Prelude.{◌≤◌, ◌++◌, ◌∷◌, [], ℕ, IsTrue, List, All, fold, length, pos, ◌+ℤ◌, ◌*ℤ◌, ◌≤ℤ◌}
 use Rattle.sdc_base.specs.Largest.{largest_sum}
 use Rattle.sdc_base.specs.Shares.{weight_from}
-use Rattle.sdc_base.specs.RuleLevels.{Figures, names}
+use Rattle.sdc_base.specs.RuleLevels.{Figures, is_sensitive_by}
 use Rattle.sdc_base.specs.declared.tops.Unit.{Unit as Contribution}
 use Rattle.sdc_base.specs.declared.rule.Rule.{Rule}
 use Rattle.sdc_base.specs.declared.rule.Rule.TheVariants as rule
@@ -23,7 +23,8 @@ abbrev pub IsNamedNoMore : Rule → Type 0
 IsNamedNoMore one =
     (scale : ℕ) (units : List Contribution) (new : Contribution) → All (λ unit. pos 0 ≤ℤ unit.value) units
     → pos 0 ≤ℤ new.value → scale ≤ weight_from new.value units
-    → IsTrue (names one (figures_of (units ++ new ∷ []) scale)) → IsTrue (names one (figures_of units scale))
+    → IsTrue (is_sensitive_by one (figures_of (units ++ new ∷ []) scale))
+    → IsTrue (is_sensitive_by one (figures_of units scale))
 
 -- So it is with the p-percent rule and with the prior-posterior rule. (One that becomes the largest may well disclose
 -- itself.)

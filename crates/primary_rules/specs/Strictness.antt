@@ -3,7 +3,7 @@ use Rattle.std.specs.Prelude.{◌≤◌, ◌++◌, ℕ, IsTrue, List, ◌∷◌,
 use Rattle.sdc_base.specs.Trees.{Tree}
 use Rattle.sdc_base.specs.Records.{Name}
 use Rattle.sdc_base.specs.declared.rows.Row.{Row}
-use Rattle.sdc_base.specs.RuleLevels.{Figures, figures_in, names, wanted_level, rounded_up, level_of, manual_of}
+use Rattle.sdc_base.specs.RuleLevels.{Figures, figures_in, is_sensitive_by, wanted_level, rounded_up, level_of, manual_of}
 use Rattle.sdc_base.specs.declared.facts.Levels.{Levels}
 use Rattle.sdc_base.specs.declared.rule.Rule.{Rule}
 use Rattle.sdc_base.specs.declared.rule.Rule.TheVariants as rule
@@ -43,7 +43,7 @@ pub data AreNoLower : Option Levels → Option Levels → Type 0 where
 abbrev pub StricterWantsMore : Type 0
 StricterWantsMore =
     (one other : Rule) (cell : Figures) → IsInRange one → IsInRange other → AreFromZero cell → IsStricter one other
-    → IsTrue (names one cell) → IsTrue (names other cell)
+    → IsTrue (is_sensitive_by one cell) → IsTrue (is_sensitive_by other cell)
     × (rounded_up (wanted_level one cell) ≤ℤ rounded_up (wanted_level other cell))
 
 -- a stricter rule in the place of another lowers no level

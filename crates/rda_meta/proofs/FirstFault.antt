@@ -10,16 +10,16 @@ use Rattle.sdc_base.proofs.StepLemmas.{bind_err}
 use Rattle.rda_meta.specs.declared.faults.MetaWhy.{MetaWhy}
 use Rattle.rda_meta.specs.declared.faults.MetaWhy.TheVariants.{Clash}
 use Rattle.rda_meta.specs.declared.entry.Entry.{Entry}
-use Rattle.rda_meta.specs.declared.entry.SoFar.{SoFar}
+use Rattle.rda_meta.specs.declared.entry.ReaderProgress.{ReaderProgress}
 use Rattle.rda_meta.specs.LineSettings.{is_clashing}
 use Rattle.rda_meta.specs.Laws.{IsLineFault, IsClash}
 
-abbrev Faulty : ℕ → SoFar → List (List ℕ) → ℕ → MetaWhy → Type 0
+abbrev Faulty : ℕ → ReaderProgress → List (List ℕ) → ℕ → MetaWhy → Type 0
 Faulty behind s texts line why =
-    (before : ℕ) × (so_far : SoFar) × (text : List ℕ) × (line ≡ behind + before + 1) × (slice_get texts before ≡ Some text)
+    (before : ℕ) × (so_far : ReaderProgress) × (text : List ℕ) × (line ≡ behind + before + 1) × (slice_get texts before ≡ Some text)
     × (lines_say behind s (take before texts) ≡ Ok so_far) × (text_says line so_far (trim text) ≡ Err why)
 
-first-fault : (behind : ℕ) (s : SoFar) (texts : List (List ℕ)) (line : ℕ) (why : MetaWhy) → lines_say behind s texts ≡ Err (line, why) → Faulty behind s texts line why
+first-fault : (behind : ℕ) (s : ReaderProgress) (texts : List (List ℕ)) (line : ℕ) (why : MetaWhy) → lines_say behind s texts ≡ Err (line, why) → Faulty behind s texts line why
 unfolding lines_say
 first-fault behind s [] line why h = absurd cc
 first-fault behind s (text ∷ texts) line why h =

@@ -18,7 +18,7 @@ use Rattle.rda_meta.specs.declared.setting.Keyword.{Keyword}
 use Rattle.rda_meta.specs.declared.setting.Keyword.TheVariants.{Weight}
 use Rattle.rda_meta.specs.declared.setting.Setting.{Setting}
 use Rattle.rda_meta.specs.declared.entry.Entry.{Entry}
-use Rattle.rda_meta.specs.declared.entry.SoFar.{SoFar}
+use Rattle.rda_meta.specs.declared.entry.ReaderProgress.{ReaderProgress}
 use Rattle.rda_meta.specs.declared.meta.Meta.{Meta}
 use Rattle.rda_meta.specs.Words.{words}
 use Rattle.rda_meta.specs.Keywords.{is_passed, same_keyword}
@@ -33,7 +33,7 @@ abbrev pub all_unnumbered : List Entry → List Entry
 all_unnumbered [] = []
 all_unnumbered (entry ∷ entries) = unnumbered entry ∷ all_unnumbered entries
 
-abbrev pub so_far_unnumbered : SoFar → SoFar
+abbrev pub so_far_unnumbered : ReaderProgress → ReaderProgress
 so_far_unnumbered s = record s { entries = all_unnumbered s.entries }
 
 -- ---- the entries
@@ -70,7 +70,7 @@ setting-unnumbered setting [] = refl
 setting-unnumbered setting (e ∷ []) = refl
 setting-unnumbered setting (e ∷ next ∷ es) = ap (λ (xs : List Entry). unnumbered e ∷ xs) (setting-unnumbered setting (next ∷ es))
 
-after-unnumbered : (s : SoFar) (setting : Setting) → so_far_unnumbered (after_setting s setting) ≡ after_setting (so_far_unnumbered s) setting
+after-unnumbered : (s : ReaderProgress) (setting : Setting) → so_far_unnumbered (after_setting s setting) ≡ after_setting (so_far_unnumbered s) setting
 after-unnumbered s setting =
     elim (is_passed setting.keyword) as (λ t. so_far_unnumbered (cond t (record s { passed_over = s.passed_over + 1 }) (record s { entries = with_setting setting s.entries })) ≡ cond t (record s { entries = all_unnumbered s.entries; passed_over = s.passed_over + 1 }) (record s { entries = with_setting setting (all_unnumbered s.entries) })) [
       | true ↦ refl
@@ -90,11 +90,11 @@ setting_in-unnumbered es text =
     ] in
     bind_same (keyword_in text) _ _ (λ keyword. ap (λ o. or_fault BadName o >>= rest (all_unnumbered es) keyword) (last-unnumbered es) ∙ same keyword (last_of es))
 
-keyword_line-unnumbered : (s : SoFar) (text : List ℕ) → map_ok so_far_unnumbered (keyword_line s text) ≡ keyword_line (so_far_unnumbered s) text
+keyword_line-unnumbered : (s : ReaderProgress) (text : List ℕ) → map_ok so_far_unnumbered (keyword_line s text) ≡ keyword_line (so_far_unnumbered s) text
 unfolding keyword_line
 keyword_line-unnumbered s text =
     map_bind so_far_unnumbered (setting_in s.entries text) (λ setting. Ok (after_setting s setting))
-    ∙ bind_same (setting_in s.entries text) _ _ (λ setting. ap (λ (x : SoFar). Ok x) (after-unnumbered s setting))
+    ∙ bind_same (setting_in s.entries text) _ _ (λ setting. ap (λ (x : ReaderProgress). Ok x) (after-unnumbered s setting))
     ∙ ap (λ r. r >>= λ setting. Ok (after_setting (so_far_unnumbered s) setting)) (sym (setting_in-unnumbered s.entries text))
 
 variable_at-unnumbered : (line : ℕ) (es : List Entry) (ws : List (List ℕ)) → map_ok unnumbered (variable_at line es ws) ≡ variable_at 0 (all_unnumbered es) ws
@@ -110,7 +110,7 @@ variable_at-unnumbered line es ws =
     ∙ ap (λ n. refuse TooMany (nat_lt 63 n) >>= λ room. Ok (record { line = 0; name = name.0; first = first.0; width = width.0; missing = missing; said = [] })) (sym (length-unnumbered es)))
     ∙ ap (λ t. refuse Twice t >>= λ fresh. refuse TooMany (nat_lt 63 (length (all_unnumbered es))) >>= λ room. Ok (record { line = 0; name = name.0; first = first.0; width = width.0; missing = missing; said = [] })) (sym (named-unnumbered name.0 es)))))))
 
-variable_line-unnumbered : (line : ℕ) (s : SoFar) (text : List ℕ) → map_ok so_far_unnumbered (variable_line line s text) ≡ variable_line 0 (so_far_unnumbered s) text
+variable_line-unnumbered : (line : ℕ) (s : ReaderProgress) (text : List ℕ) → map_ok so_far_unnumbered (variable_line line s text) ≡ variable_line 0 (so_far_unnumbered s) text
 unfolding variable_line
 variable_line-unnumbered line s text =
     let moved : (r : Result Entry MetaWhy) → (r >>= λ entry. Ok (so_far_unnumbered (after_variable s entry))) ≡ (map_ok unnumbered r >>= λ entry. Ok (after_variable (so_far_unnumbered s) entry)) =
@@ -122,7 +122,7 @@ variable_line-unnumbered line s text =
     ∙ moved (variable_at line s.entries (words text))
     ∙ ap (λ r. r >>= λ entry. Ok (after_variable (so_far_unnumbered s) entry)) (variable_at-unnumbered line s.entries (words text))
 
-says-unnumbered : (line : ℕ) (s : SoFar) (text : List ℕ) → map_ok so_far_unnumbered (text_says line s text) ≡ text_says 0 (so_far_unnumbered s) text
+says-unnumbered : (line : ℕ) (s : ReaderProgress) (text : List ℕ) → map_ok so_far_unnumbered (text_says line s text) ≡ text_says 0 (so_far_unnumbered s) text
 unfolding text_says
 says-unnumbered line s [] = refl
 says-unnumbered line s (b ∷ text) =
@@ -134,23 +134,23 @@ says-unnumbered line s (b ∷ text) =
 -- ---- the text
 
 -- line by line, without numbers
-unfoldable pub plainly : SoFar → List (List ℕ) → Result SoFar MetaWhy
+unfoldable pub plainly : ReaderProgress → List (List ℕ) → Result ReaderProgress MetaWhy
 plainly s [] = Ok s
 plainly s (text ∷ texts) = text_says 0 s text >>= λ next. plainly next texts
 
-abbrev outcome : Result SoFar (ℕ × MetaWhy) → Result SoFar MetaWhy
+abbrev outcome : Result ReaderProgress (ℕ × MetaWhy) → Result ReaderProgress MetaWhy
 outcome r = map_ok so_far_unnumbered (but_for_line r)
 
-blank-says : (line : ℕ) (s : SoFar) (text : List ℕ) → is_dark_line text ≡ false → text_says line s text ≡ Ok s
+blank-says : (line : ℕ) (s : ReaderProgress) (text : List ℕ) → is_dark_line text ≡ false → text_says line s text ≡ Ok s
 unfolding text_says
 blank-says line s [] h = refl
 blank-says line s (b ∷ text) h = absurd cc
 
-lines-plainly : (before : ℕ) (s : SoFar) (texts : List (List ℕ)) → outcome (lines_say before s texts) ≡ plainly (so_far_unnumbered s) (filter is_dark_line (map trim texts))
+lines-plainly : (before : ℕ) (s : ReaderProgress) (texts : List (List ℕ)) → outcome (lines_say before s texts) ≡ plainly (so_far_unnumbered s) (filter is_dark_line (map trim texts))
 unfolding lines_say plainly
 lines-plainly before s [] = refl
 lines-plainly before s (text ∷ texts) =
-    let here : (r : Result SoFar MetaWhy) → outcome (at_line (before + 1) r >>= λ next. lines_say (before + 1) next texts) ≡ (map_ok so_far_unnumbered r >>= λ next. plainly next (filter is_dark_line (map trim texts))) =
+    let here : (r : Result ReaderProgress MetaWhy) → outcome (at_line (before + 1) r >>= λ next. lines_say (before + 1) next texts) ≡ (map_ok so_far_unnumbered r >>= λ next. plainly next (filter is_dark_line (map trim texts))) =
     λ r. elim r as (λ r. outcome (at_line (before + 1) r >>= λ next. lines_say (before + 1) next texts) ≡ (map_ok so_far_unnumbered r >>= λ next. plainly next (filter is_dark_line (map trim texts)))) [
       | Ok next ↦ lines-plainly (before + 1) next texts
       | Err why ↦ refl
@@ -172,19 +172,19 @@ variables-unnumbered [] = refl
 variables-unnumbered (e ∷ es) = ap (λ xs. variable_of e ∷ xs) (variables-unnumbered es)
 
 -- what is made of the entries
-abbrev pub made : SoFar → Result Meta MetaWhy
+abbrev pub made : ReaderProgress → Result Meta MetaWhy
 made all = but_for_line (no_clash all.entries) >>= λ fine. Ok (record { variables = map variable_of all.entries; passed_over = all.passed_over })
 
 but-bind : {A B : Type 0} (r : Result A (ℕ × MetaWhy)) (f : A → Result B (ℕ × MetaWhy)) → but_for_line (r >>= f) ≡ (but_for_line r >>= λ x. but_for_line (f x))
 but-bind (Ok x) f = refl
 but-bind (Err e) f = refl
 
-made-unnumbered : (all : SoFar) → made all ≡ made (so_far_unnumbered all)
+made-unnumbered : (all : ReaderProgress) → made all ≡ made (so_far_unnumbered all)
 made-unnumbered all =
     ap (λ r. r >>= λ fine. Ok (record { variables = map variable_of all.entries; passed_over = all.passed_over })) (clash-unnumbered all.entries)
     ∙ ap (λ vs. but_for_line (no_clash (all_unnumbered all.entries)) >>= λ fine. Ok (record { variables = vs; passed_over = all.passed_over })) (variables-unnumbered all.entries)
 
-made-outcome : (r : Result SoFar (ℕ × MetaWhy)) → (but_for_line r >>= made) ≡ (outcome r >>= made)
+made-outcome : (r : Result ReaderProgress (ℕ × MetaWhy)) → (but_for_line r >>= made) ≡ (outcome r >>= made)
 made-outcome (Ok all) = made-unnumbered all
 made-outcome (Err fault) = refl
 
@@ -199,7 +199,7 @@ lenient a b same = meta-plainly a ∙ ap (λ (ts : List (List ℕ)). plainly no_
 
 -- ---- with the numbers
 
-trimmed-say : (before : ℕ) (s : SoFar) (a b : List (List ℕ)) → map trim a ≡ map trim b → lines_say before s a ≡ lines_say before s b
+trimmed-say : (before : ℕ) (s : ReaderProgress) (a b : List (List ℕ)) → map trim a ≡ map trim b → lines_say before s a ≡ lines_say before s b
 unfolding lines_say
 trimmed-say before s [] [] same = refl
 trimmed-say before s [] (y ∷ b) same = absurd cc

@@ -20,7 +20,7 @@ use Rattle.rda_meta.specs.declared.setting.Keyword.{Keyword}
 use Rattle.rda_meta.specs.declared.setting.Argument.{Argument}
 use Rattle.rda_meta.specs.declared.setting.Setting.{Setting}
 use Rattle.rda_meta.specs.declared.entry.Entry.{Entry}
-use Rattle.rda_meta.specs.declared.entry.SoFar.{SoFar}
+use Rattle.rda_meta.specs.declared.entry.ReaderProgress.{ReaderProgress}
 use Rattle.rda_meta.specs.declared.meta.Meta.{Meta}
 use Rattle.rda_meta.specs.Words.{words}
 use Rattle.rda_meta.specs.Keywords.{is_passed}
@@ -124,7 +124,7 @@ states es b text setting h =
     let there : (o : Option Entry) → or_fault BadName o ≡ Ok e.0 → o ≡ Some e.0 = λ o. elim o as (λ o. or_fault BadName o ≡ Ok e.0 → o ≡ Some e.0) [ None ↦ λ h. cc | Some x ↦ λ h. let same : x ≡ e.0 = cc in ap Some same ] in
     (e.0, there (last_of es) e.1, stated-is e.0.width b text k.0 a.0 k.1 a.1 ∙ ap settings_kept o.2)
 
-keyword-step : (before : ℕ) (s next : SoFar) (b : ℕ) (text : List ℕ) (ts : List (List ℕ)) (all : List Entry) → (b == 60) ≡ true → keyword_line s text ≡ Ok next → Split (before + 1) next.entries ts all → Split before s.entries ((b ∷ text) ∷ ts) all
+keyword-step : (before : ℕ) (s next : ReaderProgress) (b : ℕ) (text : List ℕ) (ts : List (List ℕ)) (all : List Entry) → (b == 60) ≡ true → keyword_line s text ≡ Ok next → Split (before + 1) next.entries ts all → Split before s.entries ((b ∷ text) ∷ ts) all
 unfolding keyword_line
 keyword-step before s next b text ts all is said rest =
     let one = bind_ok (setting_in s.entries text) (λ setting. Ok (after_setting s setting)) next said in
@@ -139,9 +139,9 @@ keyword-step before s next b text ts all is said rest =
       | false ↦ λ h. adds-one s.entries entry setting (b ∷ text) ts there.1 h
     ] behind in
     let new : List Entry = rest.0 in
-    (new, rest.1 ∙ ap (λ (x : SoFar). extended x.entries ts ++ new) (sym made) ∙ ap (λ (es : List Entry). es ++ new) same, rw is rest.2, one-more before (b ∷ text) ts new rest.3)
+    (new, rest.1 ∙ ap (λ (x : ReaderProgress). extended x.entries ts ++ new) (sym made) ∙ ap (λ (es : List Entry). es ++ new) same, rw is rest.2, one-more before (b ∷ text) ts new rest.3)
 
-variable-step : (before : ℕ) (s next : SoFar) (b : ℕ) (text : List ℕ) (ts : List (List ℕ)) (all : List Entry) → (b == 60) ≡ false → variable_line (before + 1) s (b ∷ text) ≡ Ok next → Split (before + 1) next.entries ts all → Split before s.entries ((b ∷ text) ∷ ts) all
+variable-step : (before : ℕ) (s next : ReaderProgress) (b : ℕ) (text : List ℕ) (ts : List (List ℕ)) (all : List Entry) → (b == 60) ≡ false → variable_line (before + 1) s (b ∷ text) ≡ Ok next → Split (before + 1) next.entries ts all → Split before s.entries ((b ∷ text) ∷ ts) all
 unfolding variable_line
 variable-step before s next b text ts all is said rest =
     let one = bind_ok (variable_at (before + 1) s.entries (words (b ∷ text))) (λ entry. Ok (after_variable s entry)) next said in
@@ -160,28 +160,28 @@ variable-step before s next b text ts all is said rest =
     let old : extended s.entries ((b ∷ text) ∷ ts) ≡ s.entries = adds-nothing s.entries ((b ∷ text) ∷ ts) [] none ∙ adds-end s.entries in
     let numbers : map (λ (x : Entry). x.line) (full ∷ new) ≡ variable_line_numbers before ((b ∷ text) ∷ ts) =
     rw is (ap (λ (n : ℕ). n ∷ map (λ (x : Entry). x.line) new) fresh.0 ∙ ap (λ (ns : List ℕ). (before + 1) ∷ ns) rest.2) in
-    (full ∷ new, rest.1 ∙ ap (λ (x : SoFar). extended x.entries ts ++ new) (sym made) ∙ ap (λ (es : List Entry). es ++ new) (adds-to-new s.entries e ts) ∙ append_assoc s.entries (full ∷ []) new ∙ ap (λ (es : List Entry). es ++ full ∷ new) (sym old), numbers, ((omega (arith, fresh.0), own, s.entries, b ∷ text, here, line), one-more before (b ∷ text) ts new rest.3))
+    (full ∷ new, rest.1 ∙ ap (λ (x : ReaderProgress). extended x.entries ts ++ new) (sym made) ∙ ap (λ (es : List Entry). es ++ new) (adds-to-new s.entries e ts) ∙ append_assoc s.entries (full ∷ []) new ∙ ap (λ (es : List Entry). es ++ full ∷ new) (sym old), numbers, ((omega (arith, fresh.0), own, s.entries, b ∷ text, here, line), one-more before (b ∷ text) ts new rest.3))
 
-step : (before : ℕ) (s next : SoFar) (t : List ℕ) (ts : List (List ℕ)) (all : List Entry) → text_says (before + 1) s t ≡ Ok next → Split (before + 1) next.entries ts all → Split before s.entries (t ∷ ts) all
+step : (before : ℕ) (s next : ReaderProgress) (t : List ℕ) (ts : List (List ℕ)) (all : List Entry) → text_says (before + 1) s t ≡ Ok next → Split (before + 1) next.entries ts all → Split before s.entries (t ∷ ts) all
 unfolding text_says
 step before s next [] ts all said rest =
     let same : s ≡ next = cc in
     let new : List Entry = rest.0 in
-    (new, rest.1 ∙ ap (λ (x : SoFar). extended x.entries ts ++ new) (sym same) ∙ ap (λ (es : List Entry). es ++ new) (adds-nothing s.entries ts ([] ∷ ts) (λ width. refl)), rest.2, one-more before [] ts new rest.3)
+    (new, rest.1 ∙ ap (λ (x : ReaderProgress). extended x.entries ts ++ new) (sym same) ∙ ap (λ (es : List Entry). es ++ new) (adds-nothing s.entries ts ([] ∷ ts) (λ width. refl)), rest.2, one-more before [] ts new rest.3)
 step before s next (b ∷ text) ts all said rest =
     elim (b == 60) as (λ p. (b == 60) ≡ p → cond p (keyword_line s text) (variable_line (before + 1) s (b ∷ text)) ≡ Ok next → Split before s.entries ((b ∷ text) ∷ ts) all) [
       | true ↦ λ is h. keyword-step before s next b text ts all is h rest
       | false ↦ λ is h. variable-step before s next b text ts all is h rest
     ] refl said
 
-splits : (before : ℕ) (s all : SoFar) (texts : List (List ℕ)) → lines_say before s texts ≡ Ok all → Split before s.entries (map trim texts) all.entries
+splits : (before : ℕ) (s all : ReaderProgress) (texts : List (List ℕ)) → lines_say before s texts ≡ Ok all → Split before s.entries (map trim texts) all.entries
 unfolding lines_say
 splits before s all [] h =
     let same : s ≡ all = cc in
-    ([], ap (λ (x : SoFar). x.entries) (sym same) ∙ sym (adds-end s.entries) ∙ sym (append-nil (extended s.entries [])), refl, tt)
+    ([], ap (λ (x : ReaderProgress). x.entries) (sym same) ∙ sym (adds-end s.entries) ∙ sym (append-nil (extended s.entries [])), refl, tt)
 splits before s all (text ∷ texts) h =
     let one = bind_ok (at_line (before + 1) (text_says (before + 1) s (trim text))) (λ next. lines_say (before + 1) next texts) all h in
-    let said : (r : Result SoFar MetaWhy) → at_line (before + 1) r ≡ Ok one.0 → r ≡ Ok one.0 = λ r. elim r as (λ r. at_line (before + 1) r ≡ Ok one.0 → r ≡ Ok one.0) [ Ok x ↦ λ h. let same : x ≡ one.0 = cc in ap Ok same | Err w ↦ λ h. cc ] in
+    let said : (r : Result ReaderProgress MetaWhy) → at_line (before + 1) r ≡ Ok one.0 → r ≡ Ok one.0 = λ r. elim r as (λ r. at_line (before + 1) r ≡ Ok one.0 → r ≡ Ok one.0) [ Ok x ↦ λ h. let same : x ≡ one.0 = cc in ap Ok same | Err w ↦ λ h. cc ] in
     step before s one.0 (trim text) (map trim texts) all.entries (said (text_says (before + 1) s (trim text)) one.1) (splits (before + 1) one.0 all texts one.2)
 
 all-of-their-lines : (texts : List (List ℕ)) (es : List Entry) → AllByRecursion (Meant 0 texts) es → AllByRecursion (IsOfItsLines texts) es

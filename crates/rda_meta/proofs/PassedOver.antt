@@ -10,7 +10,7 @@ use Rattle.rda_meta.specs.declared.faults.MetaWhy.{MetaWhy}
 use Rattle.rda_meta.specs.declared.faults.MetaWhy.TheVariants.{BadName, Twice}
 use Rattle.rda_meta.specs.declared.setting.Setting.{Setting}
 use Rattle.rda_meta.specs.declared.entry.Entry.{Entry}
-use Rattle.rda_meta.specs.declared.entry.SoFar.{SoFar}
+use Rattle.rda_meta.specs.declared.entry.ReaderProgress.{ReaderProgress}
 use Rattle.rda_meta.specs.declared.meta.Meta.{Meta}
 use Rattle.rda_meta.specs.Faults.{at_line}
 use Rattle.rda_meta.specs.Words.{words}
@@ -37,7 +37,7 @@ its-keyword es text setting h =
     let made : record { keyword = k.0; argument = a.0 } ≡ setting = cc in
     ap is_passed_keyword k.1 ∙ ap (λ (s : Setting). is_passed s.keyword) made
 
-keyword-counts : (s next : SoFar) (b : ℕ) (text : List ℕ) → (b == 60) ≡ true → keyword_line s text ≡ Ok next → next.passed_over ≡ s.passed_over + count (b ∷ text)
+keyword-counts : (s next : ReaderProgress) (b : ℕ) (text : List ℕ) → (b == 60) ≡ true → keyword_line s text ≡ Ok next → next.passed_over ≡ s.passed_over + count (b ∷ text)
 unfolding keyword_line
 keyword-counts s next b text is said =
     let one = bind_ok (setting_in s.entries text) (λ setting. Ok (after_setting s setting)) next said in
@@ -49,21 +49,21 @@ keyword-counts s next b text is said =
       | false ↦ omega arith
     ] in
     let line : is_passed_line (b ∷ text) ≡ is_passed setting.keyword = rw is (its-keyword s.entries text setting one.1) in
-    ap (λ (x : SoFar). x.passed_over) (sym made) ∙ here ∙ ap (λ t. s.passed_over + cond t 1 0) (sym line)
+    ap (λ (x : ReaderProgress). x.passed_over) (sym made) ∙ here ∙ ap (λ t. s.passed_over + cond t 1 0) (sym line)
 
-variable-counts : (line : ℕ) (s next : SoFar) (b : ℕ) (text : List ℕ) → (b == 60) ≡ false → variable_line line s (b ∷ text) ≡ Ok next → next.passed_over ≡ s.passed_over + count (b ∷ text)
+variable-counts : (line : ℕ) (s next : ReaderProgress) (b : ℕ) (text : List ℕ) → (b == 60) ≡ false → variable_line line s (b ∷ text) ≡ Ok next → next.passed_over ≡ s.passed_over + count (b ∷ text)
 unfolding variable_line
 variable-counts line s next b text is said =
     let one = bind_ok (variable_at line s.entries (words (b ∷ text))) (λ entry. Ok (after_variable s entry)) next said in
     let made : after_variable s one.0 ≡ next = cc in
-    let same : next.passed_over ≡ s.passed_over = ap (λ (x : SoFar). x.passed_over) (sym made) in
+    let same : next.passed_over ≡ s.passed_over = ap (λ (x : ReaderProgress). x.passed_over) (sym made) in
     rw is (omega (arith, same))
 
-text-counts : (line : ℕ) (s next : SoFar) (text : List ℕ) → text_says line s text ≡ Ok next → next.passed_over ≡ s.passed_over + count text
+text-counts : (line : ℕ) (s next : ReaderProgress) (text : List ℕ) → text_says line s text ≡ Ok next → next.passed_over ≡ s.passed_over + count text
 unfolding text_says
 text-counts line s next [] said =
     let same : s ≡ next = cc in
-    omega (arith, ap (λ (x : SoFar). x.passed_over) same)
+    omega (arith, ap (λ (x : ReaderProgress). x.passed_over) same)
 text-counts line s next (b ∷ text) said =
     elim (b == 60) as (λ p. (b == 60) ≡ p → cond p (keyword_line s text) (variable_line line s (b ∷ text)) ≡ Ok next → next.passed_over ≡ s.passed_over + count (b ∷ text)) [
       | true ↦ λ is h. keyword-counts s next b text is h
@@ -77,14 +77,14 @@ counted-first text texts =
       | false ↦ omega arith
     ]
 
-pub counts : (before : ℕ) (s all : SoFar) (texts : List (List ℕ)) → lines_say before s texts ≡ Ok all → all.passed_over ≡ s.passed_over + length (filter is_passed_line (map trim texts))
+pub counts : (before : ℕ) (s all : ReaderProgress) (texts : List (List ℕ)) → lines_say before s texts ≡ Ok all → all.passed_over ≡ s.passed_over + length (filter is_passed_line (map trim texts))
 unfolding lines_say
 counts before s all [] h =
     let same : s ≡ all = cc in
-    omega (arith, ap (λ (x : SoFar). x.passed_over) same)
+    omega (arith, ap (λ (x : ReaderProgress). x.passed_over) same)
 counts before s all (text ∷ texts) h =
     let one = bind_ok (at_line (before + 1) (text_says (before + 1) s (trim text))) (λ next. lines_say (before + 1) next texts) all h in
-    let said : (r : Result SoFar MetaWhy) → at_line (before + 1) r ≡ Ok one.0 → r ≡ Ok one.0 = λ r. elim r as (λ r. at_line (before + 1) r ≡ Ok one.0 → r ≡ Ok one.0) [ Ok x ↦ λ h. let same : x ≡ one.0 = cc in ap Ok same | Err w ↦ λ h. cc ] in
+    let said : (r : Result ReaderProgress MetaWhy) → at_line (before + 1) r ≡ Ok one.0 → r ≡ Ok one.0 = λ r. elim r as (λ r. at_line (before + 1) r ≡ Ok one.0 → r ≡ Ok one.0) [ Ok x ↦ λ h. let same : x ≡ one.0 = cc in ap Ok same | Err w ↦ λ h. cc ] in
     let here = text-counts (before + 1) s one.0 (trim text) (said (text_says (before + 1) s (trim text)) one.1) in
     omega (arith, here, counts (before + 1) one.0 all texts one.2, counted-first (trim text) (map trim texts))
 

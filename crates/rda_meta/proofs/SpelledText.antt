@@ -18,7 +18,7 @@ use Rattle.rda_meta.specs.declared.setting.Keyword.TheVariants.{Recodeable, Reco
 use Rattle.rda_meta.specs.declared.setting.Argument.TheVariants.{Nothing}
 use Rattle.rda_meta.specs.declared.setting.Setting.{Setting}
 use Rattle.rda_meta.specs.declared.entry.Entry.{Entry}
-use Rattle.rda_meta.specs.declared.entry.SoFar.{SoFar}
+use Rattle.rda_meta.specs.declared.entry.ReaderProgress.{ReaderProgress}
 use Rattle.sdc_base.proofs.StepLemmas.{bind_same}
 use Rattle.rda_meta.specs.Keywords.{is_passed, same_keyword}
 use Rattle.rda_meta.specs.LineSettings.{has_keyword}
@@ -60,7 +60,7 @@ settings-say earlier e n (s ∷ said) rest h =
 
 -- ---- variable lines
 
-begins-variable : (line : ℕ) (s : SoFar) (word tail : List ℕ) → text_says line s (spelling_of_word word ++ tail) ≡ variable_line line s (spelling_of_word word ++ tail)
+begins-variable : (line : ℕ) (s : ReaderProgress) (word tail : List ℕ) → text_says line s (spelling_of_word word ++ tail) ≡ variable_line line s (spelling_of_word word ++ tail)
 unfolding text_says
 begins-variable line s [] tail = refl
 begins-variable line s (b ∷ word) tail =
@@ -157,7 +157,7 @@ bind-assoc : {A B C F : Type 0} (r : Result A F) (f : A → Result B F) (g : B �
 bind-assoc (Ok x) f g = refl
 bind-assoc (Err e) f g = refl
 
-plainly-append : (s : SoFar) (a b : List (List ℕ)) → plainly s (a ++ b) ≡ (plainly s a >>= λ next. plainly next b)
+plainly-append : (s : ReaderProgress) (a b : List (List ℕ)) → plainly s (a ++ b) ≡ (plainly s a >>= λ next. plainly next b)
 unfolding plainly
 plainly-append s [] b = refl
 plainly-append s (t ∷ a) b =

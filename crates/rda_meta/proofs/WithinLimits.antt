@@ -14,7 +14,7 @@ use Rattle.sdc_base.specs.Lines.{lines}
 use Rattle.sdc_base.specs.Steps.{◌>>=◌, or_fault, refuse}
 use Rattle.sdc_base.specs.Tokens.{is_number, number_in, is_file_name, is_close}
 use Rattle.sdc_base.proofs.StepLemmas.{bind_ok}
-use Rattle.rda_meta.specs.Faults.{at_line, fault_of}
+use Rattle.rda_meta.specs.Faults.{at_line, meta_fault_of}
 use Rattle.sdc_base.specs.Answers.{Gives}
 use Rattle.std.specs.Result.{IfOk}
 use Rattle.rda_meta.specs.declared.faults.MetaError.{MetaError}
@@ -36,7 +36,7 @@ use Rattle.rda_meta.specs.declared.setting.Argument.{Argument}
 use Rattle.rda_meta.specs.declared.setting.Argument.TheVariants.{Number, Word, Levels}
 use Rattle.rda_meta.specs.declared.setting.Setting.{Setting}
 use Rattle.rda_meta.specs.declared.entry.Entry.{Entry}
-use Rattle.rda_meta.specs.declared.entry.SoFar.{SoFar}
+use Rattle.rda_meta.specs.declared.entry.ReaderProgress.{ReaderProgress}
 use Rattle.rda_meta.specs.declared.meta.Shape.TheVariants as shape
 use Rattle.rda_meta.specs.declared.meta.Variable.{Variable}
 use Rattle.rda_meta.specs.declared.meta.Meta.{Meta}
@@ -321,7 +321,7 @@ weighty-push (x ∷ es) e h =
 
 -- ---- line by line
 
-pub record IsSoFar (s : SoFar) : Type 0 where
+pub record IsReaderProgress (s : ReaderProgress) : Type 0 where
   pub each : AllByRecursion IsEntry s.entries
   pub few : length s.entries ≤ 64
   pub distinct : IsDistinct bytes_eq (map (λ (e : Entry). e.name) s.entries)
@@ -340,15 +340,15 @@ with-weight es s last one =
       | false ↦ λ is. omega (arith, weighty-same es s is, one)
     ] refl
 
-keyword-keeps : (s next : SoFar) (text : List ℕ) → keyword_line s text ≡ Ok next → IsSoFar s → IsSoFar next
+keyword-keeps : (s next : ReaderProgress) (text : List ℕ) → keyword_line s text ≡ Ok next → IsReaderProgress s → IsReaderProgress next
 unfolding keyword_line
 keyword-keeps s next text h kept =
     let one = bind_ok (setting_in s.entries text) (λ setting. Ok (after_setting s setting)) next h in
     let setting = one.0 in
     let last = takes s.entries text setting one.1 in
     let made : after_setting s setting ≡ next = cc in
-    subst IsSoFar made
-    (elim (is_passed setting.keyword) as (λ p. IsSoFar (cond p (record s { passed_over = s.passed_over + 1 }) (record s { entries = with_setting setting s.entries }))) [
+    subst IsReaderProgress made
+    (elim (is_passed setting.keyword) as (λ p. IsReaderProgress (cond p (record s { passed_over = s.passed_over + 1 }) (record s { entries = with_setting setting s.entries }))) [
       | true ↦ record { each = kept.each; few = kept.few; distinct = kept.distinct; one = kept.one }
       | false ↦ record {
         each = entries-take s.entries setting last kept.each;
@@ -362,7 +362,7 @@ pushed-count : (es : List Entry) (e : Entry) → length (es ++ e ∷ []) ≡ len
 pushed-count [] e = refl
 pushed-count (x ∷ es) e = omega (arith, pushed-count es e)
 
-variable-keeps : (line : ℕ) (s next : SoFar) (text : List ℕ) → variable_line line s text ≡ Ok next → IsSoFar s → IsSoFar next
+variable-keeps : (line : ℕ) (s next : ReaderProgress) (text : List ℕ) → variable_line line s text ≡ Ok next → IsReaderProgress s → IsReaderProgress next
 unfolding variable_line
 variable-keeps line s next text h kept =
     let one = bind_ok (variable_at line s.entries (words text)) (λ entry. Ok (after_variable s entry)) next h in
@@ -371,28 +371,28 @@ variable-keeps line s next text h kept =
     let made : after_variable s e ≡ next = cc in
     let light : has_keyword Weight e.said ≡ false = rw fresh.none refl in
     let named : map (λ (x : Entry). x.name) s.entries ++ e.name ∷ [] ≡ map (λ (x : Entry). x.name) (s.entries ++ e ∷ []) = sym (map-append (λ (x : Entry). x.name) s.entries (e ∷ [])) in
-    subst IsSoFar made (record {
+    subst IsReaderProgress made (record {
       each = all-more IsEntry s.entries e kept.each fresh.entry;
       few = omega (arith, pushed-count s.entries e, fresh.room);
       distinct = subst (λ (names : List (List ℕ)). IsDistinct bytes_eq names) named (IsDistinct-push nat_list_eq_equiv (map (λ (x : Entry). x.name) s.entries) e.name kept.distinct (new-name s.entries e.name fresh.new));
       one = omega (arith, weighty-push s.entries e light, kept.one);
     })
 
-text-keeps : (line : ℕ) (s next : SoFar) (text : List ℕ) → text_says line s text ≡ Ok next → IsSoFar s → IsSoFar next
+text-keeps : (line : ℕ) (s next : ReaderProgress) (text : List ℕ) → text_says line s text ≡ Ok next → IsReaderProgress s → IsReaderProgress next
 unfolding text_says
-text-keeps line s next [] h kept = let same : s ≡ next = cc in subst IsSoFar same kept
+text-keeps line s next [] h kept = let same : s ≡ next = cc in subst IsReaderProgress same kept
 text-keeps line s next (b ∷ text) h kept =
-    elim (b == 60) as (λ p. cond p (keyword_line s text) (variable_line line s (b ∷ text)) ≡ Ok next → IsSoFar next) [
+    elim (b == 60) as (λ p. cond p (keyword_line s text) (variable_line line s (b ∷ text)) ≡ Ok next → IsReaderProgress next) [
       | true ↦ λ h. keyword-keeps s next text h kept
       | false ↦ λ h. variable-keeps line s next (b ∷ text) h kept
     ] h
 
-lines-keep : (before : ℕ) (s all : SoFar) (texts : List (List ℕ)) → lines_say before s texts ≡ Ok all → IsSoFar s → IsSoFar all
+lines-keep : (before : ℕ) (s all : ReaderProgress) (texts : List (List ℕ)) → lines_say before s texts ≡ Ok all → IsReaderProgress s → IsReaderProgress all
 unfolding lines_say
-lines-keep before s all [] h kept = let same : s ≡ all = cc in subst IsSoFar same kept
+lines-keep before s all [] h kept = let same : s ≡ all = cc in subst IsReaderProgress same kept
 lines-keep before s all (text ∷ texts) h kept =
     let one = bind_ok (at_line (before + 1) (text_says (before + 1) s (trim text))) (λ next. lines_say (before + 1) next texts) all h in
-    let said : (r : Result SoFar MetaWhy) → at_line (before + 1) r ≡ Ok one.0 → r ≡ Ok one.0 = λ r. elim r as (λ r. at_line (before + 1) r ≡ Ok one.0 → r ≡ Ok one.0) [ Ok x ↦ λ h. let same : x ≡ one.0 = cc in ap Ok same | Err w ↦ λ h. cc ] in
+    let said : (r : Result ReaderProgress MetaWhy) → at_line (before + 1) r ≡ Ok one.0 → r ≡ Ok one.0 = λ r. elim r as (λ r. at_line (before + 1) r ≡ Ok one.0 → r ≡ Ok one.0) [ Ok x ↦ λ h. let same : x ≡ one.0 = cc in ap Ok same | Err w ↦ λ h. cc ] in
     lines-keep (before + 1) one.0 all texts one.2 (text-keeps (before + 1) s one.0 (trim text) (said (text_says (before + 1) s (trim text)) one.1) kept)
 
 none-clash : (es : List Entry) (x : Unit {0}) → no_clash es ≡ Ok x → AllByRecursion (λ (e : Entry). is_clashing e.said ≡ false) es
@@ -515,6 +515,6 @@ within_limits bytes meta h =
     })
 
 -- what is given of a text that was read is within its limits
-pub limits_given : (given : Result Meta MetaError) (bytes : List ℕ) → Gives fault_of (λ (meta : Meta). meta) given (meta_of bytes) → IfOk given IsMeta
+pub limits_given : (given : Result Meta MetaError) (bytes : List ℕ) → Gives meta_fault_of (λ (meta : Meta). meta) given (meta_of bytes) → IfOk given IsMeta
 limits_given (Ok meta) bytes h = within_limits bytes meta h
 limits_given (Err e) bytes h = tt

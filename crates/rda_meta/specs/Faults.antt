@@ -8,9 +8,9 @@ use Rattle.rda_meta.specs.declared.faults.MetaError.{MetaError}
 use Rattle.rda_meta.specs.declared.faults.MetaError.TheVariants as meta_error
 
 -- the fault for which metadata aren't read, behind the number of its line
-abbrev pub fault_of : MetaError → Option (ℕ × MetaWhy)
-fault_of meta_error.Memory = None
-fault_of (meta_error.At line why) = Some (line, why)
+abbrev pub meta_fault_of : MetaError → Option (ℕ × MetaWhy)
+meta_fault_of meta_error.Memory = None
+meta_fault_of (meta_error.At line why) = Some (line, why)
 
 -- what a line gives, its fault behind the line's number
 abbrev pub at_line : {A : Type 0} → ℕ → Result A MetaWhy → Result A (ℕ × MetaWhy)

@@ -11,7 +11,7 @@ use Rattle.rda_meta.specs.declared.meta.Variable.{Variable}
 use Rattle.rda_meta.specs.declared.entry.Entry.{Entry}
 use Rattle.rda_meta.specs.Spelling.{canonical_lines}
 use Rattle.rda_meta.specs.CanonicalMetadata.{AreCanonical, entry_of}
-use Rattle.rda_meta.specs.declared.entry.SoFar.{SoFar}
+use Rattle.rda_meta.specs.declared.entry.ReaderProgress.{ReaderProgress}
 use Rattle.rda_meta.specs.LineSettings.{is_clashing}
 
 -- the line has a byte
@@ -46,13 +46,14 @@ IsLenientToLineEnds = (texts : List (List ℕ)) → AllByRecursion IsLine texts
 -- The line behind so many lines has this fault, and they have none.
 abbrev pub IsLineFault : List (List ℕ) → ℕ → MetaWhy → Type 0
 IsLineFault texts line why =
-    (before : ℕ) × (so_far : SoFar) × (text : List ℕ) × (line ≡ before + 1) × (slice_get texts before ≡ Some text)
+    (before : ℕ) × (so_far : ReaderProgress) × (text : List ℕ) × (line ≡ before + 1)
+    × (slice_get texts before ≡ Some text)
     × (lines_say 0 no_lines (take before texts) ≡ Ok so_far) × (text_says line so_far (trim text) ≡ Err why)
 
 -- No line has a fault, and the variable of this line is the first that clashes.
 abbrev pub IsClash : List (List ℕ) → ℕ → MetaWhy → Type 0
 IsClash texts line why =
-    (all : SoFar) × (entry : Entry) × (why ≡ Clash) × (lines_say 0 no_lines texts ≡ Ok all)
+    (all : ReaderProgress) × (entry : Entry) × (why ≡ Clash) × (lines_say 0 no_lines texts ≡ Ok all)
     × (find (λ e. is_clashing e.said) all.entries ≡ Some entry) × (entry.line ≡ line)
 
 -- The fault that is given is that of the first line that has one, or else that of the first variable that clashes.

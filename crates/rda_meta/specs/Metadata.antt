@@ -8,7 +8,7 @@ use Rattle.rda_meta.specs.declared.faults.MetaWhy.TheVariants.{Clash}
 use Rattle.rda_meta.specs.declared.setting.Keyword.TheVariants.{Weight}
 use Rattle.rda_meta.specs.declared.setting.Setting.{Setting}
 use Rattle.rda_meta.specs.declared.entry.Entry.{Entry}
-use Rattle.rda_meta.specs.declared.entry.SoFar.{SoFar}
+use Rattle.rda_meta.specs.declared.entry.ReaderProgress.{ReaderProgress}
 use Rattle.rda_meta.specs.declared.meta.Variable.{Variable}
 use Rattle.rda_meta.specs.declared.meta.Meta.{Meta}
 use Rattle.rda_meta.specs.Faults.{at_line}
@@ -19,34 +19,34 @@ use Rattle.rda_meta.specs.KeywordLines.{setting_in, with_setting}
 use Rattle.rda_meta.specs.VariableLines.{variable_at}
 
 -- a setting that is passed over is counted, and every other is one more of the last variable
-abbrev pub after_setting : SoFar → Setting → SoFar
+abbrev pub after_setting : ReaderProgress → Setting → ReaderProgress
 after_setting so_far setting =
     if is_passed setting.keyword then record so_far { passed_over = so_far.passed_over + 1 }
     else record so_far { entries = with_setting setting so_far.entries }
 
 -- one variable more
-abbrev pub after_variable : SoFar → Entry → SoFar
+abbrev pub after_variable : ReaderProgress → Entry → ReaderProgress
 after_variable so_far entry = record so_far { entries = so_far.entries ++ entry ∷ [] }
 
 -- a keyword line, behind its <
-unfoldable pub keyword_line : SoFar → List ℕ → Result SoFar MetaWhy
+unfoldable pub keyword_line : ReaderProgress → List ℕ → Result ReaderProgress MetaWhy
 keyword_line so_far text = do
   setting ← setting_in so_far.entries text
   Ok (after_setting so_far setting)
 
 -- a variable line
-unfoldable pub variable_line : ℕ → SoFar → List ℕ → Result SoFar MetaWhy
+unfoldable pub variable_line : ℕ → ReaderProgress → List ℕ → Result ReaderProgress MetaWhy
 variable_line line so_far text = do
   entry ← variable_at line so_far.entries (words text)
   Ok (after_variable so_far entry)
 
 -- a line without blanks at its ends: nothing, a keyword line, which begins with <, or a variable line
-unfoldable pub text_says : ℕ → SoFar → List ℕ → Result SoFar MetaWhy
+unfoldable pub text_says : ℕ → ReaderProgress → List ℕ → Result ReaderProgress MetaWhy
 text_says line so_far [] = Ok so_far
 text_says line so_far (b ∷ text) = if b == 60 then keyword_line so_far text else variable_line line so_far (b ∷ text)
 
 -- The lines in their order, behind so many others, each with what those before it say.
-unfoldable pub lines_say : ℕ → SoFar → List (List ℕ) → Result SoFar (ℕ × MetaWhy)
+unfoldable pub lines_say : ℕ → ReaderProgress → List (List ℕ) → Result ReaderProgress (ℕ × MetaWhy)
 lines_say before so_far [] = Ok so_far
 lines_say before so_far (text ∷ texts) = do
   next ← at_line (before + 1) (text_says (before + 1) so_far (trim text))
@@ -73,7 +73,7 @@ variable_of entry = record {
 }
 
 -- before the first line
-abbrev pub no_lines : SoFar
+abbrev pub no_lines : ReaderProgress
 no_lines = record { entries = []; passed_over = 0 }
 
 -- the metadata that a text states, or its first fault with its line

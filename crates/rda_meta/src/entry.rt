@@ -14,7 +14,7 @@ pub(crate) struct Entry {
 
 /// What the lines so far say.
 #[derive(Drop)]
-pub(crate) struct SoFar {
+pub(crate) struct ReaderProgress {
     pub(crate) entries: Items<Entry>,
     pub(crate) passed_over: u32,
 }

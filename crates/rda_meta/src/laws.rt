@@ -17,7 +17,7 @@ pub fn leniency()
 /// The fault that is given is that of the first line that has one; where no line has one, that of the
 /// first variable of which the lines say what doesn't go together, at the variable's line.
 #[tactic(auto, using(crate::proofs::FirstFault::in_order))]
-pub fn order()
+pub fn first_fault_is_given()
     ensures { IsInOrder }
 {}
 
@@ -25,7 +25,7 @@ pub fn order()
 /// a keyword line between its own line and the next variable line says so, and else the default; and
 /// the lines that are passed over are counted.
 #[tactic(auto, using(crate::proofs::OwnLines::meant, crate::proofs::PassedOver::counted))]
-pub fn meaning()
+pub fn metadata_are_as_stated()
     ensures variables { IsMeant }
     ensures passed_over { IsCounted }
 {}
@@ -33,7 +33,7 @@ pub fn meaning()
 /// Any metadata within the limits are read from their canonical text, and from every text that has its
 /// lines with other blanks at their ends, other line ends and blank lines between them.
 #[tactic(auto, using(crate::proofs::SpelledText::spelled_again))]
-pub fn spelling()
+pub fn metadata_are_read_again()
     ensures round_trip { IsRoundTrip }
     ensures text { IsReadAgain }
     ensures lines { IsSpelling }
@@ -41,7 +41,7 @@ pub fn spelling()
 
 /// Worked texts and what they say.
 #[tactic(auto, using(crate::proofs::RowsHold::four_lines, crate::proofs::RowsHold::realistic, crate::proofs::RowsHold::files, crate::proofs::RowsHold::late_clash, crate::proofs::RowsHold::some_canonical))]
-pub fn rows()
+pub fn worked_texts()
     ensures four_lines { FourLines }
     ensures realistic { ReadsRealisticMetadata }
     ensures files { Files }

@@ -17,6 +17,8 @@ mod variable_lines;
 mod words;
 
 pub use faults::{MetaError, MetaWhy};
-pub use laws::{leniency, meaning, order, rows, spelling};
+pub use laws::{
+    first_fault_is_given, leniency, metadata_are_as_stated, metadata_are_read_again, worked_texts,
+};
 pub use meta::{Meta, Shape, Variable};
 pub use reading::read_meta;

@@ -2,11 +2,11 @@ ghost use Rattle.std.specs.Prelude.{◌≡◌, ◌≤◌, ◌+◌, ◌<◌, ◌^
 ghost use Rattle.sdc_base.specs.Answers.{Gives};
 ghost use Rattle.sdc_base.specs.Blanks as blanks_specs;
 ghost use Rattle.plain_text.specs.Stops.{why_of};
-ghost use Rattle.rda_meta.specs.Faults.{fault_of, at_line};
+ghost use Rattle.rda_meta.specs.Faults.{meta_fault_of, at_line};
 ghost use Rattle.rda_meta.specs.Metadata.{after_setting};
 ghost use Rattle.rda_meta.specs.Metadata as metadata;
 
-use crate::entry::SoFar;
+use crate::entry::ReaderProgress;
 use crate::faults::{MetaError, MetaWhy, error_at};
 use crate::keyword_lines::{add_setting, setting_in};
 use crate::keywords::is_passed;
@@ -24,10 +24,10 @@ pub(crate) fn read_line(
     alloc: Global,
     line: u32,
     text: &[u8],
-    so_far: &mut SoFar,
+    so_far: &mut ReaderProgress,
 ) -> Result<(), MetaError>
     requires { so_far.old.passed_over + 1 < 2 ^ 32 }
-    ensures said { Gives fault_of (λ _. so_far.new) result
+    ensures said { Gives meta_fault_of (λ _. so_far.new) result
         (at_line line (metadata.text_says line so_far.old (blanks_specs.trim text.now))) }
     ensures passed { OnOk result (so_far.new.passed_over ≤ so_far.old.passed_over + 1) }
 {
@@ -39,7 +39,12 @@ pub(crate) fn read_line(
 
 // What the bytes of a line say, without blanks at their ends.
 #[tactic(auto, unfolding(crate::specs::Metadata::text_says))]
-fn text_says(alloc: Global, line: u32, text: &[u8], so_far: &mut SoFar) -> Result<(), Stop<MetaWhy>>
+fn text_says(
+    alloc: Global,
+    line: u32,
+    text: &[u8],
+    so_far: &mut ReaderProgress,
+) -> Result<(), Stop<MetaWhy>>
     requires { so_far.old.passed_over + 1 < 2 ^ 32 }
     ensures said { Gives why_of (λ _. so_far.new) result (metadata.text_says line so_far.old text.now) }
     ensures passed { OnOk result (so_far.new.passed_over ≤ so_far.old.passed_over + 1) }
@@ -59,7 +64,7 @@ fn variable_line(
     alloc: Global,
     line: u32,
     text: &[u8],
-    so_far: &mut SoFar,
+    so_far: &mut ReaderProgress,
 ) -> Result<(), Stop<MetaWhy>>
     ensures said { Gives why_of (λ _. so_far.new) result (metadata.variable_line line so_far.old text.now) }
     ensures passed { OnOk result (so_far.new.passed_over ≤ so_far.old.passed_over + 1) }
@@ -73,7 +78,11 @@ fn variable_line(
 // One setting more of the last variable, or one line more that is passed over; the text is that behind
 // the `<`.
 #[tactic(auto, unfolding(crate::specs::Metadata::keyword_line))]
-fn keyword_line(alloc: Global, text: &[u8], so_far: &mut SoFar) -> Result<(), Stop<MetaWhy>>
+fn keyword_line(
+    alloc: Global,
+    text: &[u8],
+    so_far: &mut ReaderProgress,
+) -> Result<(), Stop<MetaWhy>>
     requires { so_far.old.passed_over + 1 < 2 ^ 32 }
     ensures said { Gives why_of (λ _. so_far.new) result (metadata.keyword_line so_far.old text.now) }
     ensures passed { OnOk result (so_far.new.passed_over ≤ so_far.old.passed_over + 1) }
@@ -84,7 +93,7 @@ fn keyword_line(alloc: Global, text: &[u8], so_far: &mut SoFar) -> Result<(), St
 }
 
 // The setting is counted where it is passed over, and else kept.
-fn take_setting(so_far: &mut SoFar, setting: Setting) -> Result<(), Memory>
+fn take_setting(so_far: &mut ReaderProgress, setting: Setting) -> Result<(), Memory>
     requires { so_far.old.passed_over + 1 < 2 ^ 32 }
     ensures said { OnOk result (so_far.new ≡ after_setting so_far.old setting) }
     ensures passed { OnOk result (so_far.new.passed_over ≤ so_far.old.passed_over + 1) }

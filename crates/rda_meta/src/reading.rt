@@ -1,12 +1,12 @@
 ghost use Rattle.std.specs.Prelude.{◌≡◌, ◌<◌, ◌^◌, length, map, IfOk};
 ghost use Rattle.sdc_base.specs.Lines as lines_specs;
 ghost use Rattle.sdc_base.specs.Answers.{Gives};
-ghost use Rattle.rda_meta.specs.Faults.{fault_of};
+ghost use Rattle.rda_meta.specs.Faults.{meta_fault_of};
 ghost use Rattle.rda_meta.specs.Limits.{IsMeta};
 ghost use Rattle.rda_meta.specs.Metadata.{lines_say, no_lines, meta_of};
 ghost use Rattle.rda_meta.specs.Metadata as metadata_specs;
 
-use crate::entry::{Entry, SoFar};
+use crate::entry::{Entry, ReaderProgress};
 use crate::faults::{MetaError, MetaWhy};
 use crate::line::read_line;
 use crate::meta::{Meta, Variable};
@@ -33,7 +33,7 @@ use std::alloc::Global;
 #[tactic(auto, using(crate::proofs::WithinLimits::limits_given))]
 pub fn read_meta(alloc: Global, bytes: &[u8]) -> Result<Meta, MetaError>
     requires { length bytes.now < 2 ^ 32 }
-    ensures exact { Gives fault_of (λ meta. meta) result (meta_of bytes.now) }
+    ensures exact { Gives meta_fault_of (λ meta. meta) result (meta_of bytes.now) }
     ensures within { IfOk result IsMeta }
 {
     meta_in(alloc, bytes)
@@ -43,7 +43,7 @@ pub fn read_meta(alloc: Global, bytes: &[u8]) -> Result<Meta, MetaError>
 #[tactic(auto, unfolding(crate::specs::Metadata::meta_of))]
 fn meta_in(alloc: Global, bytes: &[u8]) -> Result<Meta, MetaError>
     requires { length bytes.now < 2 ^ 32 }
-    ensures { Gives fault_of (λ meta. meta) result (meta_of bytes.now) }
+    ensures { Gives meta_fault_of (λ meta. meta) result (meta_of bytes.now) }
 {
     let so_far = read_lines(alloc, bytes)?;
     no_clash(so_far.entries.as_slice())?;
@@ -56,12 +56,12 @@ fn meta_in(alloc: Global, bytes: &[u8]) -> Result<Meta, MetaError>
 }
 
 // What all lines say.
-fn read_lines(alloc: Global, bytes: &[u8]) -> Result<SoFar, MetaError>
+fn read_lines(alloc: Global, bytes: &[u8]) -> Result<ReaderProgress, MetaError>
     requires { length bytes.now < 2 ^ 32 }
-    ensures { Gives fault_of (λ so_far. so_far) result (lines_say 0 no_lines (lines_specs.lines bytes.now)) }
+    ensures { Gives meta_fault_of (λ so_far. so_far) result (lines_say 0 no_lines (lines_specs.lines bytes.now)) }
 {
     let mut reader = lines(bytes);
-    let mut so_far = SoFar {
+    let mut so_far = ReaderProgress {
         entries: Items::empty(alloc),
         passed_over: 0,
     };
@@ -74,7 +74,7 @@ fn read_lines(alloc: Global, bytes: &[u8]) -> Result<SoFar, MetaError>
 // The first variable of which the lines say what doesn't go together is a fault of its line.
 #[tactic(auto, unfolding(crate::specs::Metadata::no_clash))]
 fn no_clash(entries: &[Entry]) -> Result<(), MetaError>
-    ensures { Gives fault_of (λ fine. fine) result (metadata_specs.no_clash entries.now) }
+    ensures { Gives meta_fault_of (λ fine. fine) result (metadata_specs.no_clash entries.now) }
 {
     'entries: for entry in entries {
         if is_clashing(entry.said.as_slice()) {

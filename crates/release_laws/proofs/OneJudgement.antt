@@ -29,10 +29,10 @@ use Rattle.worlds.specs.Protection.{Protection as HiddenSet}
 use Rattle.release_writer.specs.ReleaseReading.{LinePlace, rounded_read}
 use Rattle.sdc_base.specs.Trails.{corners_of}
 use Rattle.repair.specs.HidingOrder.{protected_case, hide_subjects, planned_set}
-use Rattle.job_inputs.specs.SettledJobs.{SettledInputs, IsSettledOf}
+use Rattle.job_inputs.specs.ClassifiedJobs.{SettledInputs, IsSettledOf}
 use Rattle.job_inputs.specs.Tables.{names_of}
 use Rattle.job_inputs.specs.declared.described.DescribedJob.{DescribedJob}
-use Rattle.job_inputs.specs.declared.settled.SettledJob.{SettledJob}
+use Rattle.job_inputs.specs.declared.settled.ClassifiedJob.{ClassifiedJob}
 use Rattle.release_laws.proofs.OneText.{AreAlike, rounded-same, tables-same}
 use Rattle.release_laws.proofs.OneTrail.{same-system, same-trail}
 use Rattle.release_laws.proofs.SameValues.{same-cells}
@@ -109,14 +109,14 @@ judged-alike one other tables c alike =
 -- ---- cases of the same settled inputs
 
 -- the cells of settled inputs are those of each job that has these inputs
-pub one-cells : (settled : SettledInputs) (one other : SettledJob) → IsSettledOf settled one → IsSettledOf settled other → one.cells ≡ other.cells
+pub one-cells : (settled : SettledInputs) (one other : ClassifiedJob) → IsSettledOf settled one → IsSettledOf settled other → one.cells ≡ other.cells
 one-cells settled one other is are = same-cells one.cells other.cells (is.cells ∙ sym are.cells)
 
-pub one-described : (settled : SettledInputs) (one other : SettledJob) → IsSettledOf settled one → IsSettledOf settled other → one.described ≡ other.described
+pub one-described : (settled : SettledInputs) (one other : ClassifiedJob) → IsSettledOf settled one → IsSettledOf settled other → one.described ≡ other.described
 one-described settled one other is are = is.described ∙ sym are.described
 
 -- so is the trail
-one-trail : (settled : SettledInputs) (one other : SettledJob) → IsSettledOf settled one → IsSettledOf settled other
+one-trail : (settled : SettledInputs) (one other : ClassifiedJob) → IsSettledOf settled one → IsSettledOf settled other
     → trail_of one.book one.cells one.described.job.cost (passes_of one.described.job.method) ≡ trail_of other.book other.cells other.described.job.cost (passes_of other.described.job.method)
 one-trail settled one other is are =
     ap (λ (d : DescribedJob). trail_of one.book one.cells d.job.cost (passes_of d.job.method)) (one-described settled one other is are)
@@ -149,14 +149,14 @@ pub judged-in-one-way : InputsAreJudgedInOneWay
 judged-in-one-way settled one other tables certificate is are fits fit = judged-alike one other tables certificate (rest-alike settled one other tables is are fits fit)
 
 -- the relations of a job are those of the case of its inputs
-pub one-system : (settled : SettledInputs) (job : SettledJob) (system : System) (case : Case) → IsSettledOf settled job → IsSystemOf job.book system → IsCaseOf settled case → system ≡ case.system.now
+pub one-system : (settled : SettledInputs) (job : ClassifiedJob) (system : System) (case : Case) → IsSettledOf settled job → IsSystemOf job.book system → IsCaseOf settled case → system ≡ case.system.now
 one-system settled job system case job_is system_is is =
     same-system job.book is.job.book system case.system.now (job_is.book.trees ∙ sym is.job_is.book.trees) (job_is.book.tables ∙ sym is.job_is.book.tables) system_is is.system
 
 -- ---- what a run has put
 
 -- a protection of a job's cells is one of the case of its inputs
-pub of-case : (settled : SettledInputs) (job : SettledJob) (system : System) (prices : List ℕ) (protected : HiddenSet) (certificate : Certificate) (case : Case) → IsSettledOf settled job → IsSystemOf job.book system
+pub of-case : (settled : SettledInputs) (job : ClassifiedJob) (system : System) (prices : List ℕ) (protected : HiddenSet) (certificate : Certificate) (case : Case) → IsSettledOf settled job → IsSystemOf job.book system
     → IsProtectedWith (protected_case system job.cells) prices job.described.job.method (trail_of job.book job.cells job.described.job.cost (passes_of job.described.job.method)) protected certificate → IsCaseOf settled case
     → IsProtectedWith (protected_case case.system.now case.cells.now) prices case.method case.trail.now.steps protected certificate
 of-case settled job system prices protected certificate case job_is system_is protects is =

@@ -36,7 +36,7 @@ use Rattle.job_inputs.proofs.CertificateFiles.{certificate-is}
 use Rattle.job_inputs.specs.CertificateFile.{certificate_in, certificate_fault}
 use Rattle.job_inputs.specs.ContributorsFile.{extra_in}
 use Rattle.job_inputs.specs.ReadFiles.{bytes_of_file, limit_of, output_limit, whole_file}
-use Rattle.job_inputs.specs.SettledJobs.{SettledInputs, settled_of}
+use Rattle.job_inputs.specs.ClassifiedJobs.{SettledInputs, settled_of}
 use Rattle.job_inputs.specs.SoundJobs.{IsSoundJob}
 use Rattle.job_inputs.specs.TabulatedBooks.{IsBookOf}
 use Rattle.job_inputs.specs.Tables.{names_of, tables_of, tables_from as bytes_from}

@@ -30,7 +30,7 @@ use Rattle.job_inputs.specs.Inputs.{described_of, inputs_of, job_for, look_at_re
 use Rattle.job_inputs.specs.Layouts.{layout_of, variables_at}
 use Rattle.job_inputs.specs.PriorStatements.{prior_line, priors_of, with_bytes, with_file, with_files}
 use Rattle.job_inputs.specs.ReadFiles.{bytes_of_file, job_fault, meta_fault, whole_file}
-use Rattle.job_inputs.specs.SettledJobs.{SettledInputs, is_contributors_file, overwrites_job, settled_cells, settled_of}
+use Rattle.job_inputs.specs.ClassifiedJobs.{SettledInputs, is_contributors_file, overwrites_job, settled_cells, settled_of}
 use Rattle.job_inputs.specs.declared.described.DescribedJob.{DescribedJob}
 use Rattle.job_inputs.specs.declared.faults.Fault.{Fault}
 use Rattle.job_inputs.specs.declared.faults.Fault.TheVariants as fault

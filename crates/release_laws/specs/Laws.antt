@@ -19,8 +19,8 @@ use Rattle.release_writer.specs.ReadingLaws.{AreTexts}
 use Rattle.release_writer.specs.ShownCells.{open_truth}
 use Rattle.repair.specs.HidingOrder.{protected_case}
 use Rattle.worlds.specs.Protection.{Protection as HiddenSet}
-use Rattle.job_inputs.specs.SettledJobs.{SettledInputs, IsSettledOf}
-use Rattle.job_inputs.specs.declared.settled.SettledJob.{SettledJob}
+use Rattle.job_inputs.specs.ClassifiedJobs.{SettledInputs, IsSettledOf}
+use Rattle.job_inputs.specs.declared.settled.ClassifiedJob.{ClassifiedJob}
 use Rattle.job_check.specs.Cases.{IsCaseOf}
 use Rattle.job_check.specs.GuardedReleases.{guarded_fault, AreSolesOf}
 
@@ -51,7 +51,7 @@ InputsAreJudgedInOneWay =
 -- case of the inputs, with the tables that hide its set: so a check accepts what a run has put, with the same inputs.
 abbrev pub WrittenIsAccepted : Type 0
 WrittenIsAccepted =
-    (settled : SettledInputs) (job : SettledJob) (system : System) (prices : List ℕ) (protected : HiddenSet)
+    (settled : SettledInputs) (job : ClassifiedJob) (system : System) (prices : List ℕ) (protected : HiddenSet)
     (certificate : Certificate) (case : Case) (tables : List (List ℕ))
     → IsSettledOf settled job → IsSystemOf job.book system
     → IsProtectedWith (protected_case system job.cells) prices job.described.job.method
@@ -72,7 +72,7 @@ GuardsAreJudgedInOneWay =
 -- worlds these extra cells have no fault against those who alone make up cells.
 pub record AreGuarded (settled : SettledInputs) (prices : List ℕ) (protected : HiddenSet) (certificate : Certificate)
     (extra : Extra) : Type 0 where
-  pub job : SettledJob
+  pub job : ClassifiedJob
   pub system : System
   pub job_is : IsSettledOf settled job
   pub system_is : IsSystemOf job.book system

@@ -17,7 +17,7 @@ use Rattle.relations.specs.Holding.{IsSystemOf}
 use Rattle.release_writer.specs.ReadingLaws.{AreTexts, IsReleased}
 use Rattle.release_writer.specs.ReleaseReading.{rounded_read}
 use Rattle.job_inputs.specs.Cells.{cells, truth_in}
-use Rattle.job_inputs.specs.SettledJobs.{SettledInputs}
+use Rattle.job_inputs.specs.ClassifiedJobs.{SettledInputs}
 use Rattle.job_inputs.specs.SoundJobs.{IsSoundJob}
 use Rattle.job_inputs.specs.TabulatedBooks.{IsBookOf}
 use Rattle.job_check.specs.Cases.{IsCaseOf}

@@ -7,16 +7,16 @@ use Rattle.release_writer.specs.ReleaseReading.{ReleaseSoFar, LinePlace}
 use Rattle.release_writer.specs.LineChoices.{Template}
 use Rattle.release_writer.specs.declared.release_fault.ReleaseFault.{ReleaseFault}
 use Rattle.release_writer.specs.declared.release_fault.ReleaseFault.TheVariants as fault
-use Rattle.release_writer.specs.declared.sheet.Sheet.{Sheet}
+use Rattle.release_writer.specs.declared.sheet.TableLayout.{TableLayout}
 use Rattle.release_writer.specs.declared.sheet.Progress.{Progress}
-use Rattle.release_writer.specs.declared.sheet.Fit.{Fit}
+use Rattle.release_writer.specs.declared.sheet.LineMatch.{LineMatch}
 
 -- the bad line of a fault; want of memory has none
-abbrev pub fault_of : ReleaseFault → Option LinePlace
-fault_of fault.Memory = None
-fault_of (fault.At table line) = Some (table, line)
+abbrev pub release_fault_of : ReleaseFault → Option LinePlace
+release_fault_of fault.Memory = None
+release_fault_of (fault.At table line) = Some (table, line)
 
-abbrev pub form_of : Sheet → Template
+abbrev pub form_of : TableLayout → Template
 form_of sheet =
     record {
       book = sheet.book.now;
@@ -29,7 +29,7 @@ form_of sheet =
 abbrev pub reading_of : Progress → ReleaseSoFar
 reading_of progress = record { shown = progress.shown; rest = progress.rest.now; line = progress.line }
 
-abbrev pub fit_of : Option Fit → Option (Option ℤ × List ℕ)
+abbrev pub fit_of : Option LineMatch → Option (Option ℤ × List ℕ)
 fit_of fit = option_map (λ fit. (fit.value, fit.rest.now)) fit
 
 -- what is shown, if anything, is a number from 0
@@ -41,7 +41,7 @@ abbrev pub HasTruthsFromZero : BookView → Type 0
 HasTruthsFromZero book = All (λ mark. pos 0 ≤ℤ mark.facts.truth) book.marks
 
 -- the table is one of the book, the decimals are those of a number, and truths are from 0
-pub record IsSheet (sheet : Sheet) : Type 0 where
+pub record IsTableLayout (sheet : TableLayout) : Type 0 where
   pub table : slice_get sheet.book.now.tables sheet.t ≡ Some sheet.table.now
   pub decimals : sheet.decimals ≤ 13
   pub truths : HasTruthsFromZero sheet.book.now

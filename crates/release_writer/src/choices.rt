@@ -3,11 +3,11 @@ ghost use Rattle.std.specs.List.{before_first};
 ghost use Rattle.std.specs.Option.{ForSome};
 ghost use Rattle.sdc_base.specs.Lines.{is_line_feed};
 ghost use Rattle.release_writer.specs.LineChoices as spec;
-ghost use Rattle.release_writer.specs.Sheets.{form_of, fit_of, IsFromZero, IsSheet};
+ghost use Rattle.release_writer.specs.Sheets.{form_of, fit_of, IsFromZero, IsTableLayout};
 
 use crate::lines::write_place;
 use crate::numbers::value_text;
-use crate::sheet::{Fit, Sheet};
+use crate::sheet::{LineMatch, TableLayout};
 use crate::tables::bytes_of;
 use csv::WriterBuilder;
 use linked_tables::Mark;
@@ -19,13 +19,13 @@ use std::alloc::Global;
 /// the line gives.
 pub(crate) fn value_there<'a>(
     alloc: Global,
-    sheet: &Sheet<'_>,
+    sheet: &TableLayout<'_>,
     place: &[u32],
     bytes: &'a [u8],
     cell: u32,
     known: Option<Option<i128>>,
-) -> Result<Option<Fit<'a>>, Memory>
-    requires sheet { IsSheet sheet.now }
+) -> Result<Option<LineMatch<'a>>, Memory>
+    requires sheet { IsTableLayout sheet.now }
     requires code_for_each_variable { length place.now ≡ length sheet.now.table.now }
     requires known { ForSome known IsFromZero }
     ensures fit { IfOk result (λ fit. fit_of fit ≡ spec.value_there (form_of sheet.now) place.now bytes.now cell known) }
@@ -40,12 +40,12 @@ pub(crate) fn value_there<'a>(
 // What a cell shows that no earlier line shows.
 fn new_value<'a>(
     alloc: Global,
-    sheet: &Sheet<'_>,
+    sheet: &TableLayout<'_>,
     place: &[u32],
     bytes: &'a [u8],
     cell: u32,
-) -> Result<Option<Fit<'a>>, Memory>
-    requires sheet { IsSheet sheet.now }
+) -> Result<Option<LineMatch<'a>>, Memory>
+    requires sheet { IsTableLayout sheet.now }
     requires code_for_each_variable { length place.now ≡ length sheet.now.table.now }
     ensures fit { IfOk result (λ fit. fit_of fit ≡ spec.new_value (form_of sheet.now) place.now bytes.now cell) }
     ensures from_zero { IfOk result (λ fit. ForSome fit (λ fit. IsFromZero fit.value)) }
@@ -63,11 +63,11 @@ fn new_value<'a>(
 // The number that a cell shows.
 fn rounded_value<'a>(
     alloc: Global,
-    sheet: &Sheet<'_>,
+    sheet: &TableLayout<'_>,
     place: &[u32],
     bytes: &'a [u8],
-) -> Result<Option<Fit<'a>>, Memory>
-    requires sheet { IsSheet sheet.now }
+) -> Result<Option<LineMatch<'a>>, Memory>
+    requires sheet { IsTableLayout sheet.now }
     requires code_for_each_variable { length place.now ≡ length sheet.now.table.now }
     ensures fit { IfOk result (λ fit. fit_of fit ≡ spec.rounded_value (form_of sheet.now) place.now bytes.now) }
     ensures from_zero { IfOk result (λ fit. ForSome fit (λ fit. IsFromZero fit.value)) }
@@ -81,12 +81,12 @@ fn rounded_value<'a>(
 // A choice for the cell of a place, where the bytes begin with the line that shows it.
 fn choice_there<'a>(
     alloc: Global,
-    sheet: &Sheet<'_>,
+    sheet: &TableLayout<'_>,
     place: &[u32],
     bytes: &'a [u8],
     value: Option<i128>,
-) -> Result<Option<Fit<'a>>, Memory>
-    requires sheet { IsSheet sheet.now }
+) -> Result<Option<LineMatch<'a>>, Memory>
+    requires sheet { IsTableLayout sheet.now }
     requires code_for_each_variable { length place.now ≡ length sheet.now.table.now }
     requires from_zero { IsFromZero value }
     ensures fit { IfOk result (λ fit. fit_of fit ≡ spec.choice_there (form_of sheet.now) place.now bytes.now value) }
@@ -97,13 +97,13 @@ fn choice_there<'a>(
 }
 
 // A value, where the bytes begin with its line.
-fn fit_behind<'a>(line: &[u8], bytes: &'a [u8], value: Option<i128>) -> Option<Fit<'a>>
+fn fit_behind<'a>(line: &[u8], bytes: &'a [u8], value: Option<i128>) -> Option<LineMatch<'a>>
     requires from_zero { IsFromZero value }
     ensures fit { fit_of result ≡ option_map (λ rest. (value, rest)) (spec.rest_behind line.now bytes.now) }
     ensures from_zero { ForSome result (λ fit. IsFromZero fit.value) }
 {
     let rest = rest_behind(line, bytes)?;
-    Some(Fit { value, rest })
+    Some(LineMatch { value, rest })
 }
 
 /// What is left of bytes behind a line with which they begin.
@@ -116,11 +116,11 @@ pub(crate) fn rest_behind<'a>(line: &[u8], bytes: &'a [u8]) -> Option<&'a [u8]>
 // The line of a place whose cell shows this.
 fn line_showing(
     alloc: Global,
-    sheet: &Sheet<'_>,
+    sheet: &TableLayout<'_>,
     place: &[u32],
     value: Option<i128>,
 ) -> Result<Vec<u8>, Memory>
-    requires sheet { IsSheet sheet.now }
+    requires sheet { IsTableLayout sheet.now }
     requires code_for_each_variable { length place.now ≡ length sheet.now.table.now }
     requires from_zero { IsFromZero value }
     ensures line { IfOk result (λ line. line.items ≡ spec.line_showing (form_of sheet.now) place.now value) }
@@ -143,11 +143,11 @@ fn line_showing(
 // The number whose text stands where the line of a hidden cell has its `x`.
 fn number_there(
     alloc: Global,
-    sheet: &Sheet<'_>,
+    sheet: &TableLayout<'_>,
     place: &[u32],
     bytes: &[u8],
 ) -> Result<Option<i128>, Memory>
-    requires sheet { IsSheet sheet.now }
+    requires sheet { IsTableLayout sheet.now }
     requires code_for_each_variable { length place.now ≡ length sheet.now.table.now }
     ensures number { IfOk result (λ number. number ≡ spec.number_there (form_of sheet.now) place.now bytes.now) }
     ensures from_zero { IfOk result IsFromZero }

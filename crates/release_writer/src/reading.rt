@@ -4,26 +4,26 @@ ghost use Rattle.sdc_base.specs.Answers.{Gives};
 ghost use Rattle.sdc_base.specs.Cells.{trees_of};
 ghost use Rattle.sdc_base.specs.CellOrder.{is_place_in};
 ghost use Rattle.release_writer.specs.ReleaseReading as spec;
-ghost use Rattle.release_writer.specs.Sheets.{fault_of, form_of, reading_of, IsFromZero, IsSheet};
+ghost use Rattle.release_writer.specs.Sheets.{release_fault_of, form_of, reading_of, IsFromZero, IsTableLayout};
 
 use crate::choices::value_there;
 use crate::release_fault::ReleaseFault;
-use crate::sheet::{Fit, Progress, Sheet};
+use crate::sheet::{LineMatch, Progress, TableLayout};
 use std::alloc::Global;
 
 /// Reads the line of a place.
 #[tactic(auto, unfolding(crate::specs::ReleaseReading::read_place))]
 pub(crate) fn read_place<'a>(
     alloc: Global,
-    sheet: &Sheet<'_>,
+    sheet: &TableLayout<'_>,
     progress: &mut Progress<'a>,
     place: &[u32],
 ) -> Result<(), ReleaseFault>
-    requires sheet { IsSheet sheet.now }
+    requires sheet { IsTableLayout sheet.now }
     requires code_for_each_variable { length place.now ≡ length sheet.now.table.now }
     requires place { is_place_in (trees_of sheet.now.book.now.trees sheet.now.table.now) place.now ≡ true }
     requires shown { All IsFromZero progress.old.shown }
-    ensures exact { Gives fault_of (λ _. reading_of progress.new) result
+    ensures exact { Gives release_fault_of (λ _. reading_of progress.new) result
         (spec.read_place (form_of sheet.now) (reading_of progress.old) place.now) }
     ensures shown { OnOk result (All IsFromZero progress.new.shown) }
 {
@@ -38,8 +38,8 @@ pub(crate) fn read_place<'a>(
 }
 
 /// A line is bad.
-pub(crate) fn bad_line(sheet: &Sheet<'_>, line: u32) -> ReleaseFault
-    ensures { fault_of result ≡ Some (sheet.now.t, line) }
+pub(crate) fn bad_line(sheet: &TableLayout<'_>, line: u32) -> ReleaseFault
+    ensures { release_fault_of result ≡ Some (sheet.now.t, line) }
 {
     ReleaseFault::At {
         table: sheet.t,
@@ -58,10 +58,14 @@ fn value_at(shown: &[Option<i128>], cell: usize) -> Option<Option<i128>>
 }
 
 // Takes in what a cell shows.
-fn take_in<'a>(progress: &mut Progress<'a>, cell: u32, fit: Fit<'a>) -> Result<(), ReleaseFault>
+fn take_in<'a>(
+    progress: &mut Progress<'a>,
+    cell: u32,
+    fit: LineMatch<'a>,
+) -> Result<(), ReleaseFault>
     requires shown { All IsFromZero progress.old.shown }
     requires fit { IsFromZero fit.value }
-    ensures exact { Gives fault_of (λ _. reading_of progress.new) result
+    ensures exact { Gives release_fault_of (λ _. reading_of progress.new) result
         (spec.reading_after (reading_of progress.old) cell (fit.entry.value, fit.entry.rest.now)) }
     ensures shown { OnOk result (All IsFromZero progress.new.shown) }
 {

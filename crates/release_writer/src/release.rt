@@ -3,13 +3,13 @@ ghost use Rattle.sdc_base.specs.Answers.{Gives};
 ghost use Rattle.sdc_base.specs.Steps.{map_ok};
 ghost use Rattle.sdc_base.specs.TableText.{line_text};
 ghost use Rattle.release_writer.specs.ReleaseReading as spec;
-ghost use Rattle.release_writer.specs.Sheets.{fault_of, form_of, HaveNames, HasTruthsFromZero, IsFromZero, IsSheet};
+ghost use Rattle.release_writer.specs.Sheets.{release_fault_of, form_of, HaveNames, HasTruthsFromZero, IsFromZero, IsTableLayout};
 
 use crate::below::read_all;
 use crate::choices::rest_behind;
 use crate::reading::bad_line;
 use crate::release_fault::ReleaseFault;
-use crate::sheet::{Progress, Sheet};
+use crate::sheet::{Progress, TableLayout};
 use crate::tables::{begin, bytes_of};
 use linked_tables::Book;
 use sdc_base::{Hidden, Items, Memory, Text};
@@ -36,7 +36,7 @@ pub fn hidden_of(
     requires truths { HasTruthsFromZero book.now }
     requires names { HaveNames names.now book.now.tables }
     requires tables { length tables.now ≡ length book.now.tables }
-    ensures exact { Gives fault_of (λ hidden. hidden.flags) result
+    ensures exact { Gives release_fault_of (λ hidden. hidden.flags) result
         (spec.hidden_read book.now names.now decimals tables.now) }
 {
     let shown = release_shown(alloc, book, names, decimals, false, tables)?;
@@ -58,7 +58,7 @@ pub fn rounded_of(
     requires truths { HasTruthsFromZero book.now }
     requires names { HaveNames names.now book.now.tables }
     requires tables { length tables.now ≡ length book.now.tables }
-    ensures exact { Gives fault_of (λ numbers. numbers) result
+    ensures exact { Gives release_fault_of (λ numbers. numbers) result
         (spec.rounded_read book.now names.now decimals tables.now) }
 {
     let shown = release_shown(alloc, book, names, decimals, true, tables)?;
@@ -101,7 +101,7 @@ fn release_shown(
     requires truths { HasTruthsFromZero book.now }
     requires names { HaveNames names.now book.now.tables }
     requires tables { length tables.now ≡ length book.now.tables }
-    ensures exact { Gives fault_of (λ shown. shown) result
+    ensures exact { Gives release_fault_of (λ shown. shown) result
         (spec.release_read book.now names.now decimals rounded tables.now) }
 {
     let mut shown = Items::empty(alloc);
@@ -109,7 +109,7 @@ fn release_shown(
         let Some(table) = book.spans(t) else {
             return Err(ReleaseFault::Memory);
         };
-        let sheet = Sheet {
+        let sheet = TableLayout {
             book,
             table,
             t,
@@ -127,15 +127,15 @@ fn release_shown(
 #[tactic(auto, unfolding(crate::specs::ReleaseReading::read_table))]
 fn read_table(
     alloc: Global,
-    sheet: &Sheet<'_>,
+    sheet: &TableLayout<'_>,
     names: &[Text],
     bytes: &[u8],
     shown: Items<Option<i128>>,
 ) -> Result<Items<Option<i128>>, ReleaseFault>
-    requires sheet { IsSheet sheet.now }
+    requires sheet { IsTableLayout sheet.now }
     requires names { 0 < length names.now }
     requires shown { All IsFromZero shown }
-    ensures exact { Gives fault_of (λ shown. shown) result
+    ensures exact { Gives release_fault_of (λ shown. shown) result
         (spec.read_table (form_of sheet.now) names.now bytes.now shown) }
     ensures shown { IfOk result (λ shown. All IsFromZero shown) }
 {

@@ -3,7 +3,7 @@ use sdc_base::{Items, Place};
 
 /// A table of a release that is read.
 #[derive(Clone, Copy)]
-pub(crate) struct Sheet<'a> {
+pub(crate) struct TableLayout<'a> {
     pub(crate) book: &'a Book,
     pub(crate) table: &'a Place,
     pub(crate) t: u32,
@@ -21,7 +21,7 @@ pub(crate) struct Progress<'a> {
 
 /// What a cell shows, and the bytes behind the line that shows it.
 #[derive(Clone, Copy)]
-pub(crate) struct Fit<'a> {
+pub(crate) struct LineMatch<'a> {
     pub(crate) value: Option<i128>,
     pub(crate) rest: &'a [u8],
 }

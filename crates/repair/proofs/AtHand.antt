@@ -23,10 +23,10 @@ use Rattle.worlds.specs.WorldFaults.{IsGivenWorld}
 use Rattle.worlds.proofs.Bounds.{decides_le}
 use Rattle.worlds.proofs.RefutationLaws.{no_world}
 use Rattle.worlds.proofs.TrueTests.{and_true}
-use Rattle.repair.specs.declared.trial.Spare.{Spare}
+use Rattle.repair.specs.declared.trial.ReusableTable.{ReusableTable}
 use Rattle.repair.specs.HidingOrder.{Case, IsOfKind, StandsAt, ProtectsBefore, ProtectsAll, IsFirstUnprotected}
 use Rattle.repair.specs.KeptWorlds.{IsServing, AreServed, AreServedBefore}
-use Rattle.repair.specs.CellTrials.{fits, serves_beside, IsKept, AreKept, IsSpare, AreSpare, IsRefuted, offered}
+use Rattle.repair.specs.CellTrials.{fits, serves_beside, IsKept, AreKept, IsReusableTable, AreReusableTables, IsRefuted, offered}
 use Rattle.repair.specs.LevelQuestions.{AreGiven}
 use Rattle.repair.specs.Repairs.{cell_and_side}
 use Rattle.worlds.specs.declared.refuted.Refuted.{Refuted}
@@ -145,22 +145,22 @@ protects_kept c flags asked one (q ∷ questions) (w ∷ worlds) found are test 
       | false ↦ λ is more. protects_kept c flags asked one questions worlds found are.1 more
     ] refl test
 
--- one of the spares serves it
-protects_spare : (c : Case) (flags : List Bool) (asked : ℕ × Side) (one : Cell) (spares : List Spare) → slice_get c.cells asked.0 ≡ Some one → AreSpare c spares → list_any (λ spare. serves_beside one asked flags spare.world) spares ≡ true → Protects c.system c.cells flags asked.0 asked.1
+-- one of the reusable tables serves it
+protects_spare : (c : Case) (flags : List Bool) (asked : ℕ × Side) (one : Cell) (reusable : List ReusableTable) → slice_get c.cells asked.0 ≡ Some one → AreReusableTables c reusable → list_any (λ spare. serves_beside one asked flags spare.world) reusable ≡ true → Protects c.system c.cells flags asked.0 asked.1
 protects_spare c flags asked one [] found are test = absurd cc
-protects_spare c flags asked one (s ∷ spares) found are test =
-    let own : IsSpare c s = All-head (IsSpare c) s spares are in
-    elim (serves_beside one asked flags s.world) as (λ b. serves_beside one asked flags s.world ≡ b → (b || list_any (λ (spare : Spare). serves_beside one asked flags spare.world) spares) ≡ true → Protects c.system c.cells flags asked.0 asked.1) [
+protects_spare c flags asked one (s ∷ reusable) found are test =
+    let own : IsReusableTable c s = All-head (IsReusableTable c) s reusable are in
+    elim (serves_beside one asked flags s.world) as (λ b. serves_beside one asked flags s.world ≡ b → (b || list_any (λ (spare : ReusableTable). serves_beside one asked flags spare.world) reusable) ≡ true → Protects c.system c.cells flags asked.0 asked.1) [
       | true ↦ λ is more. protects_beside c flags asked one own.asked s.world found own.kept is
-      | false ↦ λ is more. protects_spare c flags asked one spares found (All-tail (IsSpare c) s spares are) more
+      | false ↦ λ is more. protects_spare c flags asked one reusable found (All-tail (IsReusableTable c) s reusable are) more
     ] refl test
 
 -- a world at hand, kept or spare, serves it
-pub protects_at_hand : (c : Case) (flags : List Bool) (asked : ℕ × Side) (one : Cell) (questions : List (ℕ × Side)) (worlds : List World) (spares : List Spare) → slice_get c.cells asked.0 ≡ Some one → AreKept c questions worlds → AreSpare c spares → (list_any (serves_beside one asked flags) worlds || list_any (λ spare. serves_beside one asked flags spare.world) spares) ≡ true → Protects c.system c.cells flags asked.0 asked.1
-protects_at_hand c flags asked one questions worlds spares found kept are test =
-    elim (list_any (serves_beside one asked flags) worlds) as (λ b. list_any (serves_beside one asked flags) worlds ≡ b → (b || list_any (λ (spare : Spare). serves_beside one asked flags spare.world) spares) ≡ true → Protects c.system c.cells flags asked.0 asked.1) [
+pub protects_at_hand : (c : Case) (flags : List Bool) (asked : ℕ × Side) (one : Cell) (questions : List (ℕ × Side)) (worlds : List World) (reusable : List ReusableTable) → slice_get c.cells asked.0 ≡ Some one → AreKept c questions worlds → AreReusableTables c reusable → (list_any (serves_beside one asked flags) worlds || list_any (λ spare. serves_beside one asked flags spare.world) reusable) ≡ true → Protects c.system c.cells flags asked.0 asked.1
+protects_at_hand c flags asked one questions worlds reusable found kept are test =
+    elim (list_any (serves_beside one asked flags) worlds) as (λ b. list_any (serves_beside one asked flags) worlds ≡ b → (b || list_any (λ (spare : ReusableTable). serves_beside one asked flags spare.world) reusable) ≡ true → Protects c.system c.cells flags asked.0 asked.1) [
       | true ↦ λ is more. protects_kept c flags asked one questions worlds found kept is
-      | false ↦ λ is more. protects_spare c flags asked one spares found are more
+      | false ↦ λ is more. protects_spare c flags asked one reusable found are more
     ] refl test
 
 All-take : {X : Type 0} (P : X → Type 0) (n : ℕ) (xs : List X) → All P xs → All P (take n xs)
@@ -240,20 +240,20 @@ All-filtered P test (x ∷ xs) all =
     ]
 
 -- those that are left
-pub spares_left : (c : Case) (flags : List Bool) (spares : List Spare) → AreSpare c spares → AreSpare c (filter (λ spare. fits flags spare.world) spares)
-spares_left c flags spares are = All-filtered (IsSpare c) (λ (spare : Spare). fits flags spare.world) spares are
+pub spares_left : (c : Case) (flags : List Bool) (reusable : List ReusableTable) → AreReusableTables c reusable → AreReusableTables c (filter (λ spare. fits flags spare.world) reusable)
+spares_left c flags reusable are = All-filtered (IsReusableTable c) (λ (spare : ReusableTable). fits flags spare.world) reusable are
 
 -- a spare more, where there is room
-pub spare_kept : (c : Case) (spares : List Spare) (spare : Spare) (room : Bool) → IsSpare c spare → AreSpare c spares → AreSpare c (if room then spares ++ spare ∷ [] else spares)
-spare_kept c spares spare true is are = All-append (IsSpare c) spares (spare ∷ []) are (All-cons (IsSpare c) spare [] is (All-nil (IsSpare c)))
-spare_kept c spares spare false is are = are
+pub spare_kept : (c : Case) (reusable : List ReusableTable) (spare : ReusableTable) (room : Bool) → IsReusableTable c spare → AreReusableTables c reusable → AreReusableTables c (if room then reusable ++ spare ∷ [] else reusable)
+spare_kept c reusable spare true is are = All-append (IsReusableTable c) reusable (spare ∷ []) are (All-cons (IsReusableTable c) spare [] is (All-nil (IsReusableTable c)))
+spare_kept c reusable spare false is are = are
 
 -- it stands at the place of a kept world
-pub spare_within : (c : Case) (worlds : List World) (spare : Spare) → AreKept c (asked_of 0 c.cells) worlds → IsSpare c spare → spare.place < length worlds
+pub spare_within : (c : Case) (worlds : List World) (spare : ReusableTable) → AreKept c (asked_of 0 c.cells) worlds → IsReusableTable c spare → spare.place < length worlds
 spare_within c worlds spare kept is = omega (arith, kept_length c (asked_of 0 c.cells) worlds kept, slice_get_within (asked_of 0 c.cells) spare.place is.asked is.stands)
 
 -- it may take its place
-pub kept_offered : (c : Case) (flags : List Bool) (worlds : List World) (spare : Spare) → IsSpare c spare → AreKept c (asked_of 0 c.cells) worlds → AreKept c (asked_of 0 c.cells) (offered flags worlds spare)
+pub kept_offered : (c : Case) (flags : List Bool) (worlds : List World) (spare : ReusableTable) → IsReusableTable c spare → AreKept c (asked_of 0 c.cells) worlds → AreKept c (asked_of 0 c.cells) (offered flags worlds spare)
 kept_offered c flags worlds spare is kept =
     elim (fits flags spare.world && not (option_map_or (fits flags) (slice_get worlds spare.place) false)) as (λ b. AreKept c (asked_of 0 c.cells) (if b then slice_set worlds spare.place spare.world else worlds)) [
       | true ↦ kept_set c (asked_of 0 c.cells) worlds spare.place is.asked spare.world is.stands is.kept kept

@@ -13,7 +13,7 @@ use Rattle.worlds.specs.declared.world.World.{World}
 use Rattle.worlds.specs.ProtectFaults.{asked_of}
 use Rattle.repair.specs.declared.progress.Progress.{Progress}
 use Rattle.repair.specs.declared.task.Task.{Task}
-use Rattle.repair.specs.declared.trial.Spare.{Spare}
+use Rattle.repair.specs.declared.trial.ReusableTable.{ReusableTable}
 use Rattle.repair.specs.HidingOrder.{Case, IsOfKind, hide_subjects, show}
 use Rattle.repair.specs.KeptWorlds.{IsRepaired}
 use Rattle.repair.specs.LevelQuestions.{IsGiven}
@@ -101,25 +101,25 @@ trial_later : (c : Case) (larger : List Bool) (n later : ℕ) (flags : List Bool
 trial_later c larger n later flags least set is = record { cell = is.cell; below = omega (arith, is.below, least); is_free = is.is_free; was_open = is.was_open; set_is = is.set_is }
 
 -- a later cell that is shown or hidden changes no earlier trial
-pub trials_set : (c : Case) (larger : List Bool) (n : ℕ) (flags : List Bool) (m : ℕ) (v : Bool) (spares : List Spare) → n ≤ m + 1 → AreTrialAnswers c larger n flags spares → AreTrialAnswers c larger n (slice_set flags m v) spares
-trials_set c larger n flags m v spares most are =
-    All-weaker (IsTrialAnswer c larger n flags) (IsTrialAnswer c larger n (slice_set flags m v)) (λ (spare : Spare) is. record {
+pub trials_set : (c : Case) (larger : List Bool) (n : ℕ) (flags : List Bool) (m : ℕ) (v : Bool) (reusable : List ReusableTable) → n ≤ m + 1 → AreTrialAnswers c larger n flags reusable → AreTrialAnswers c larger n (slice_set flags m v) reusable
+trials_set c larger n flags m v reusable most are =
+    All-weaker (IsTrialAnswer c larger n flags) (IsTrialAnswer c larger n (slice_set flags m v)) (λ (spare : ReusableTable) is. record {
       asked = is.asked;
       stands = is.stands;
       given = given_wider (IsOfTrial c larger n flags) (IsOfTrial c larger n (slice_set flags m v)) c.system c.cells is.asked spare.world (trial_set c larger n flags m v most) is.given;
-    }) spares are
+    }) reusable are
 
-pub trials_later : (c : Case) (larger : List Bool) (n later : ℕ) (flags : List Bool) (spares : List Spare) → n ≤ later → AreTrialAnswers c larger n flags spares → AreTrialAnswers c larger later flags spares
-trials_later c larger n later flags spares least are =
-    All-weaker (IsTrialAnswer c larger n flags) (IsTrialAnswer c larger later flags) (λ (spare : Spare) is. record {
+pub trials_later : (c : Case) (larger : List Bool) (n later : ℕ) (flags : List Bool) (reusable : List ReusableTable) → n ≤ later → AreTrialAnswers c larger n flags reusable → AreTrialAnswers c larger later flags reusable
+trials_later c larger n later flags reusable least are =
+    All-weaker (IsTrialAnswer c larger n flags) (IsTrialAnswer c larger later flags) (λ (spare : ReusableTable) is. record {
       asked = is.asked;
       stands = is.stands;
       given = given_wider (IsOfTrial c larger n flags) (IsOfTrial c larger later flags) c.system c.cells is.asked spare.world (trial_later c larger n later flags least) is.given;
-    }) spares are
+    }) reusable are
 
-pub trials_more : (c : Case) (larger : List Bool) (n : ℕ) (flags : List Bool) (spares : List Spare) (spare : Spare) (room : Bool) → IsTrialAnswer c larger n flags spare → AreTrialAnswers c larger n flags spares → AreTrialAnswers c larger n flags (if room then spares ++ spare ∷ [] else spares)
-trials_more c larger n flags spares spare true is are = All-append (IsTrialAnswer c larger n flags) spares (spare ∷ []) are (All-cons (IsTrialAnswer c larger n flags) spare [] is (All-nil (IsTrialAnswer c larger n flags)))
-trials_more c larger n flags spares spare false is are = are
+pub trials_more : (c : Case) (larger : List Bool) (n : ℕ) (flags : List Bool) (reusable : List ReusableTable) (spare : ReusableTable) (room : Bool) → IsTrialAnswer c larger n flags spare → AreTrialAnswers c larger n flags reusable → AreTrialAnswers c larger n flags (if room then reusable ++ spare ∷ [] else reusable)
+trials_more c larger n flags reusable spare true is are = All-append (IsTrialAnswer c larger n flags) reusable (spare ∷ []) are (All-cons (IsTrialAnswer c larger n flags) spare [] is (All-nil (IsTrialAnswer c larger n flags)))
+trials_more c larger n flags reusable spare false is are = are
 
 -- the set with which a cell is being tried
 pub trial_now : (c : Case) (larger : List Bool) (n : ℕ) (flags : List Bool) → n < length flags → drop n flags ≡ drop n larger → IsOfKind c.cells n Free → is_hidden larger n ≡ true → IsOfTrial c larger (n + 1) (show flags n) (show flags n)
@@ -132,7 +132,7 @@ trial_now c larger n flags inside rest is_free was_open = record {
 }
 
 -- a spare that takes its place
-pub answers_offered : (c : Case) (planned : List Bool) (repairs : List Refuted) (flags : List Bool) (worlds : List World) (spare : Spare) → IsTrialAnswer c (hide_subjects planned repairs) (length c.cells) flags spare → AreAnswers c (IsOnWay c planned repairs flags) (asked_of 0 c.cells) worlds → AreAnswers c (IsOnWay c planned repairs flags) (asked_of 0 c.cells) (offered flags worlds spare)
+pub answers_offered : (c : Case) (planned : List Bool) (repairs : List Refuted) (flags : List Bool) (worlds : List World) (spare : ReusableTable) → IsTrialAnswer c (hide_subjects planned repairs) (length c.cells) flags spare → AreAnswers c (IsOnWay c planned repairs flags) (asked_of 0 c.cells) worlds → AreAnswers c (IsOnWay c planned repairs flags) (asked_of 0 c.cells) (offered flags worlds spare)
 answers_offered c planned repairs flags worlds spare is are =
     let given : IsGiven (IsOnWay c planned repairs flags) c.system c.cells is.asked spare.world =
     given_wider (IsOfTrial c (hide_subjects planned repairs) (length c.cells) flags) (IsOnWay c planned repairs flags) c.system c.cells is.asked spare.world (λ set own. inr (inl own)) is.given in
@@ -141,10 +141,10 @@ answers_offered c planned repairs flags worlds spare is are =
       | false ↦ are
     ]
 
--- while the next cell is being tried, the spares are still answers of trials
-pub trials_tried : (c : Case) (larger : List Bool) (n : ℕ) (flags : List Bool) (spares : List Spare) → AreTrialAnswers c larger n flags spares → AreTrialAnswers c larger (n + 1) (show flags n) spares
-trials_tried c larger n flags spares are = trials_set c larger (n + 1) flags n false spares (omega arith) (trials_later c larger n (n + 1) flags spares (omega arith) are)
+-- while the next cell is being tried, the reusable tables are still answers of trials
+pub trials_tried : (c : Case) (larger : List Bool) (n : ℕ) (flags : List Bool) (reusable : List ReusableTable) → AreTrialAnswers c larger n flags reusable → AreTrialAnswers c larger (n + 1) (show flags n) reusable
+trials_tried c larger n flags reusable are = trials_set c larger (n + 1) flags n false reusable (omega arith) (trials_later c larger n (n + 1) flags reusable (omega arith) are)
 
 -- those that are left
-pub trials_left : (c : Case) (larger : List Bool) (n : ℕ) (flags set : List Bool) (spares : List Spare) → AreTrialAnswers c larger n flags spares → AreTrialAnswers c larger n flags (filter (λ spare. fits set spare.world) spares)
-trials_left c larger n flags set spares are = All-filtered (IsTrialAnswer c larger n flags) (λ (spare : Spare). fits set spare.world) spares are
+pub trials_left : (c : Case) (larger : List Bool) (n : ℕ) (flags set : List Bool) (reusable : List ReusableTable) → AreTrialAnswers c larger n flags reusable → AreTrialAnswers c larger n flags (filter (λ spare. fits set spare.world) reusable)
+trials_left c larger n flags set reusable are = All-filtered (IsTrialAnswer c larger n flags) (λ (spare : ReusableTable). fits set spare.world) reusable are

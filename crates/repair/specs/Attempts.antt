@@ -10,13 +10,13 @@ use Rattle.worlds.specs.declared.world.World.{World}
 use Rattle.interval_audit.specs.declared.answer.AskFault.{AskFault}
 use Rattle.repair.specs.declared.progress.Progress.{Progress}
 use Rattle.repair.specs.declared.task.Task.{Task}
-use Rattle.repair.specs.declared.trial.Spare.{Spare}
+use Rattle.repair.specs.declared.trial.ReusableTable.{ReusableTable}
 use Rattle.repair.specs.declared.trying.Findings.{Findings}
 use Rattle.repair.specs.HidingOrder.{Case}
 use Rattle.repair.specs.KeptWorlds.{AreServed}
 use Rattle.repair.specs.OnTheWay.{IsOfTrial}
 use Rattle.repair.specs.QuestionSteps.{IsRepairedForAll}
-use Rattle.repair.specs.CellTrials.{AreKept, AreSpare, AreLast, AreTrialAnswers, AnswerOnWay, AnswerTrials, IsTried, HasTried, TriesStopFor}
+use Rattle.repair.specs.CellTrials.{AreKept, AreReusableTables, AreLast, AreTrialAnswers, AnswerOnWay, AnswerTrials, IsTried, HasTried, TriesStopFor}
 use Rattle.repair.specs.Tasks.{case_of}
 
 -- a hidden set of which may be asked: it is permitted, and there is a flag of it for each cell of the system
@@ -42,13 +42,13 @@ pub record IsTriedSet (c : Case) (flags : List Bool) (worlds : List World) : Typ
 pub record IsUntried (task : Task) (tried : Findings) : Type 0 where
   pub no_needs : tried.needs ≡ []
   pub none_shown : tried.shown ≡ []
-  pub no_spares : tried.spares.items ≡ []
+  pub no_spares : tried.reusable.items ≡ []
   pub last : AreLast (case_of task) tried.last.items
 
 -- a protection is ready to try a cell, with the worlds that are kept, the spare ones and the last ones
 pub record IsReadyToTry (task : Task) (progress : Progress) (tried : Findings) : Type 0 where
   pub set : IsTriedSet (case_of task) progress.hidden.flags progress.worlds
-  pub spares : AreSpare (case_of task) tried.spares.items
+  pub reusable : AreReusableTables (case_of task) tried.reusable.items
   pub last : AreLast (case_of task) tried.last.items
 
 -- whether the cell with this number is free and hidden
@@ -74,9 +74,9 @@ HasTriedAll task larger progress tried =
 
 -- where spare worlds are answers of trials of the cells below a number, the last of them with this set, the later ones
 -- are too
-abbrev pub StayTrialAnswers : Case → ℕ → List Bool → List Spare → List Spare → Type 0
-StayTrialAnswers c n flags spares later =
-    (larger : List Bool) → IsOfTrial c larger n flags flags → AreTrialAnswers c larger n flags spares
+abbrev pub StayTrialAnswers : Case → ℕ → List Bool → List ReusableTable → List ReusableTable → Type 0
+StayTrialAnswers c n flags reusable later =
+    (larger : List Bool) → IsOfTrial c larger n flags flags → AreTrialAnswers c larger n flags reusable
     → AreTrialAnswers c larger n flags later
 
 -- where worlds are answers for sets on the way to these flags, the later ones are too
@@ -86,10 +86,10 @@ StayOnWay task flags worlds later =
     → AnswerOnWay task planned repairs flags later
 
 -- the same, where spare worlds are answers of trials on that way
-abbrev pub StayOnWayWith : Task → List Bool → List Spare → List World → List World → Type 0
-StayOnWayWith task flags spares worlds later =
+abbrev pub StayOnWayWith : Task → List Bool → List ReusableTable → List World → List World → Type 0
+StayOnWayWith task flags reusable worlds later =
     (planned : List Bool) (repairs : List Refuted) → AnswerOnWay task planned repairs flags worlds
-    → AnswerTrials task planned repairs flags spares → AnswerOnWay task planned repairs flags later
+    → AnswerTrials task planned repairs flags reusable → AnswerOnWay task planned repairs flags later
 
 -- where a protection has repaired for all that is asked, its worlds are answers for sets on the way to the later set
 abbrev pub KeepsAnswers : Task → Progress → Progress → Type 0

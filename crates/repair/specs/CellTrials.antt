@@ -19,7 +19,7 @@ use Rattle.worlds.specs.ProtectFaults.{asked_of}
 use Rattle.repair.specs.declared.progress.Progress.{Progress}
 use Rattle.repair.specs.declared.task.Task.{Task}
 use Rattle.repair.specs.declared.trying.Findings.{Findings}
-use Rattle.repair.specs.declared.trial.Spare.{Spare}
+use Rattle.repair.specs.declared.trial.ReusableTable.{ReusableTable}
 use Rattle.repair.specs.HidingOrder.{Case, IsOfKind, hide_subjects, show_all, StandsAt, ProtectsBefore, IsFirstUnprotected, ProtectsAll}
 use Rattle.repair.specs.Repairs.{cell_and_side}
 use Rattle.repair.specs.Needs.{others_hidden, set_when_tried}
@@ -38,14 +38,14 @@ serves_beside cell asked flags world =
     && fits flags world
 
 -- whether a world at hand, kept or spare, does
-abbrev pub is_at_hand : Cell → ℕ × Side → List Bool → List World → List Spare → Bool
-is_at_hand cell asked flags worlds spares =
+abbrev pub is_at_hand : Cell → ℕ × Side → List Bool → List World → List ReusableTable → Bool
+is_at_hand cell asked flags worlds reusable =
     list_any (serves_beside cell asked flags) worlds
-    || list_any (λ spare. serves_beside cell asked flags spare.world) spares
+    || list_any (λ spare. serves_beside cell asked flags spare.world) reusable
 
--- the spares with one more, where there are fewer than this number
-abbrev pub spares_with : List Spare → ℕ → Spare → List Spare
-spares_with spares most spare = if nat_lt (length spares) most then spares ++ spare ∷ [] else spares
+-- the reusable tables with one more, where there are fewer than this number
+abbrev pub spares_with : List ReusableTable → ℕ → ReusableTable → List ReusableTable
+spares_with reusable most spare = if nat_lt (length reusable) most then reusable ++ spare ∷ [] else reusable
 
 -- a world that serves a question for some hidden set
 abbrev pub IsKept : Case → ℕ × Side → World → Type 0
@@ -59,24 +59,25 @@ AreKept c (asked ∷ more) [] = ⊥
 AreKept c (asked ∷ more) (world ∷ worlds) = IsKept c asked world × AreKept c more worlds
 
 -- a spare world serves the question at its place for some hidden set
-pub record IsSpare (c : Case) (spare : Spare) : Type 0 where
+pub record IsReusableTable (c : Case) (spare : ReusableTable) : Type 0 where
   pub asked : ℕ × Side
   pub stands : StandsAt c.cells asked spare.place
   pub kept : IsKept c asked spare.world
 
 -- a spare world is that of the answer of the question at its place while a cell below a number was tried
-pub record IsTrialAnswer (c : Case) (larger : List Bool) (n : ℕ) (flags : List Bool) (spare : Spare) : Type 0 where
+pub record IsTrialAnswer (c : Case) (larger : List Bool) (n : ℕ) (flags : List Bool)
+    (spare : ReusableTable) : Type 0 where
   pub asked : ℕ × Side
   pub stands : StandsAt c.cells asked spare.place
   pub given : IsGiven (IsOfTrial c larger n flags) c.system c.cells asked spare.world
 
 -- all spare worlds are
-abbrev pub AreTrialAnswers : Case → List Bool → ℕ → List Bool → List Spare → Type 0
-AreTrialAnswers c larger n flags spares = All (IsTrialAnswer c larger n flags) spares
+abbrev pub AreTrialAnswers : Case → List Bool → ℕ → List Bool → List ReusableTable → Type 0
+AreTrialAnswers c larger n flags reusable = All (IsTrialAnswer c larger n flags) reusable
 
 -- worlds at hand beside the kept ones: each served the question at its place
-abbrev pub AreSpare : Case → List Spare → Type 0
-AreSpare c spares = All (IsSpare c) spares
+abbrev pub AreReusableTables : Case → List ReusableTable → Type 0
+AreReusableTables c reusable = All (IsReusableTable c) reusable
 
 -- for some questions, at their places, a last world: one that served the question there
 abbrev pub AreLast : Case → List (Option World) → Type 0
@@ -89,7 +90,7 @@ last_fits flags worlds place =
     option_map_or (λ last. option_map_or (fits flags) last false) (slice_get worlds place) false
 
 -- the worlds with a spare in its place, where it moves only hidden cells and the world there doesn't
-abbrev pub offered : List Bool → List World → Spare → List World
+abbrev pub offered : List Bool → List World → ReusableTable → List World
 offered flags worlds spare =
     if fits flags spare.world && not (option_map_or (fits flags) (slice_get worlds spare.place) false)
     then slice_set worlds spare.place spare.world else worlds
@@ -99,10 +100,10 @@ abbrev pub AnswerOnWay : Task → List Bool → List Refuted → List Bool → L
 AnswerOnWay task planned repairs flags worlds =
     AreAnswers (case_of task) (IsOnWay (case_of task) planned repairs flags) (asked_of 0 task.cells.now) worlds
 
--- the spares are answers of trials on the way to these flags
-abbrev pub AnswerTrials : Task → List Bool → List Refuted → List Bool → List Spare → Type 0
-AnswerTrials task planned repairs flags spares =
-    AreTrialAnswers (case_of task) (hide_subjects planned repairs) (length task.cells.now) flags spares
+-- the reusable tables are answers of trials on the way to these flags
+abbrev pub AnswerTrials : Task → List Bool → List Refuted → List Bool → List ReusableTable → Type 0
+AnswerTrials task planned repairs flags reusable =
+    AreTrialAnswers (case_of task) (hide_subjects planned repairs) (length task.cells.now) flags reusable
 
 -- Multipliers refute the level of a primary cell for the hidden set, as its question is answered; and that question is
 -- the first that the set doesn't protect.
@@ -145,7 +146,7 @@ pub record IsTried (c : Case) (larger : List Bool) (n : ℕ) (flags : List Bool)
 -- so far has a task come with trying cells, by its progress and its findings; spare worlds are answers of trials
 pub record HasTried (task : Task) (larger : List Bool) (n : ℕ) (progress : Progress) (tried : Findings) : Type 0 where
   pub are_tried : IsTried (case_of task) larger n progress.hidden.flags tried.needs tried.shown
-  pub answers : AreTrialAnswers (case_of task) larger n progress.hidden.flags tried.spares.items
+  pub answers : AreTrialAnswers (case_of task) larger n progress.hidden.flags tried.reusable.items
 
 -- a question has a fault while a cell, the last of those shown, is being tried, or once all have been tried
 pub record IsTryStop (c : Case) (larger : List Bool) (limit : ℕ) (fault : AskFault) (shown : List ℕ) : Type 0 where

@@ -182,7 +182,7 @@ fn narrowed_verdict<'a>(
     let mut tried = Findings {
         needs: Items::empty(alloc),
         shown: Items::empty(alloc),
-        spares: Vec::new(alloc),
+        reusable: Vec::new(alloc),
         last: no_last(alloc, task.questions.len()),
     };
     let outcome = try_all(alloc, task, &mut progress, &mut tried);

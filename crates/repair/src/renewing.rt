@@ -3,13 +3,13 @@ ghost use Rattle.worlds.specs.ProtectFaults.{asked_of};
 ghost use Rattle.repair.specs.HidingOrder.{ProtectsBefore};
 ghost use Rattle.repair.specs.Tasks.{case_of};
 ghost use Rattle.repair.specs.KeptWorlds.{AreServed, AreServedBefore};
-ghost use Rattle.repair.specs.CellTrials.{AreKept, AreSpare, HasFault};
+ghost use Rattle.repair.specs.CellTrials.{AreKept, AreReusableTables, HasFault};
 ghost use Rattle.repair.specs.CellTrials as spec;
 ghost use Rattle.repair.specs.Attempts.{IsTriedSet, StayOnWay, StayOnWayWith};
 
 use crate::asking::ask_level;
 use crate::task::Task;
-use crate::trial::{Spare, fits};
+use crate::trial::{ReusableTable, fits};
 use interval_audit::AskFault;
 use kept_questions::{KeptAnswer, KeptQuestions};
 use sdc_base::{Hidden, Items};
@@ -23,19 +23,19 @@ pub(crate) fn renew_all(
     task: &Task<'_, '_>,
     hidden: &Hidden,
     worlds: &mut Items<World>,
-    spares: &mut Vec<Spare>,
+    reusable: &mut Vec<ReusableTable>,
     kept: &mut Option<KeptQuestions>,
 ) -> Result<(), AskFault>
     requires set { IsTriedSet (case_of task.now) hidden.now.flags worlds.old }
-    requires spares { AreSpare (case_of task.now) spares.old.items }
+    requires reusable { AreReusableTables (case_of task.now) reusable.old.items }
     requires protecting { ProtectsBefore (case_of task.now) hidden.now.flags (length task.now.questions.now) }
     ensures served { OnOk result (AreServed (case_of task.now) hidden.now.flags (asked_of 0 task.now.cells.now)
         worlds.new) }
-    ensures answers { OnOk result (StayOnWayWith task.now hidden.now.flags spares.old.items worlds.old worlds.new) }
+    ensures answers { OnOk result (StayOnWayWith task.now hidden.now.flags reusable.old.items worlds.old worlds.new) }
     ensures err { IfErr result (λ fault. HasFault (case_of task.now) hidden.now.flags task.now.limit fault) }
 {
     let flags = hidden.flags.as_slice();
-    take_over(task, flags, worlds, spares);
+    take_over(task, flags, worlds, reusable);
     'places: for place in 0..task.questions.len() {
         renew_question(alloc, task, place, hidden, worlds, kept)?;
     }
@@ -47,20 +47,20 @@ fn take_over(
     task: &Task<'_, '_>,
     flags: &[bool],
     worlds: &mut Items<World>,
-    spares: &mut Vec<Spare>,
+    reusable: &mut Vec<ReusableTable>,
 )
     requires kept { AreKept (case_of task.now) (asked_of 0 task.now.cells.now) worlds.old }
-    requires spares { AreSpare (case_of task.now) spares.old.items }
+    requires reusable { AreReusableTables (case_of task.now) reusable.old.items }
     ensures kept { AreKept (case_of task.now) (asked_of 0 task.now.cells.now) worlds.new }
-    ensures answers { StayOnWayWith task.now flags.now spares.old.items worlds.old worlds.new }
+    ensures answers { StayOnWayWith task.now flags.now reusable.old.items worlds.old worlds.new }
 {
-    'spares: while let Some(spare) = spares.pop() {
+    'reusable: while let Some(spare) = reusable.pop() {
         offer(flags, worlds, spare);
     }
 }
 
 // Puts a spare in its place, where it fits and the world there doesn't.
-fn offer(flags: &[bool], worlds: &mut Items<World>, spare: Spare)
+fn offer(flags: &[bool], worlds: &mut Items<World>, spare: ReusableTable)
     requires { spare.place < length worlds.old }
     ensures { worlds.new ≡ spec.offered flags.now worlds.old spare }
 {
@@ -108,9 +108,9 @@ fn renew_question(
     }
 }
 
-// Drops the spares that move a cell that is shown.
-pub(crate) fn drop_unfit(spares: &mut Vec<Spare>, flags: &[bool])
-    ensures { spares.new.items ≡ filter (λ spare. spec.fits flags.now spare.world) spares.old.items }
+// Drops the reusable tables that move a cell that is shown.
+pub(crate) fn drop_unfit(reusable: &mut Vec<ReusableTable>, flags: &[bool])
+    ensures { reusable.new.items ≡ filter (λ spare. spec.fits flags.now spare.world) reusable.old.items }
 {
-    spares.retain(|spare| fits(&spare.world, flags));
+    reusable.retain(|spare| fits(&spare.world, flags));
 }

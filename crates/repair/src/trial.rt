@@ -7,7 +7,7 @@ ghost use Rattle.worlds.specs.ProtectFaults.{asked_of};
 ghost use Rattle.repair.specs.HidingOrder.{IsOfKind, StandsAt, ProtectsBefore};
 ghost use Rattle.repair.specs.Tasks.{case_of};
 ghost use Rattle.repair.specs.Stops.{IsQuestion};
-ghost use Rattle.repair.specs.CellTrials.{AreKept, AreSpare, AreLast, ProtectsBeforeOr, HasFault};
+ghost use Rattle.repair.specs.CellTrials.{AreKept, AreReusableTables, AreLast, ProtectsBeforeOr, HasFault};
 ghost use Rattle.repair.specs.Attempts.{StayTrialAnswers};
 ghost use Rattle.repair.specs.CellTrials as spec;
 
@@ -22,35 +22,35 @@ use worlds::{Refuted, World, reaches};
 
 /// A world at hand beside the kept ones: the answer of the question at a place while some cell was tried.
 #[derive(Drop)]
-pub(crate) struct Spare {
+pub(crate) struct ReusableTable {
     pub(crate) place: usize,
     pub(crate) world: World,
 }
 
 // The first question, with its multipliers, that no world serves with the cell shown, if there is one. Only what neither
 // its kept world nor its last serves is asked, and the answers are kept.
-pub(crate) fn first_refused(
+pub(crate) fn first_need(
     alloc: Global,
     attempt: &Attempt<'_, '_, '_>,
-    spares: &mut Vec<Spare>,
+    reusable: &mut Vec<ReusableTable>,
     last: &mut Vec<Option<World>>,
     kept: &mut Option<KeptQuestions>,
 ) -> Result<Option<Refuted>, AskFault>
     requires kept { AreKept (case_of attempt.now.task.now) (asked_of 0 attempt.now.task.now.cells.now)
         attempt.now.worlds.now }
-    requires spares { AreSpare (case_of attempt.now.task.now) spares.old.items }
+    requires reusable { AreReusableTables (case_of attempt.now.task.now) reusable.old.items }
     requires last { AreLast (case_of attempt.now.task.now) last.old.items }
     ensures last { AreLast (case_of attempt.now.task.now) last.new.items }
-    ensures spares { IfOk result (λ _. AreSpare (case_of attempt.now.task.now) spares.new.items) }
+    ensures reusable { IfOk result (λ _. AreReusableTables (case_of attempt.now.task.now) reusable.new.items) }
     ensures answers { IfOk result (λ _. StayTrialAnswers (case_of attempt.now.task.now) (attempt.now.cell + 1)
-        attempt.now.hidden.now.flags spares.old.items spares.new.items) }
+        attempt.now.hidden.now.flags reusable.old.items reusable.new.items) }
     ensures ok { IfOk result (λ need. ProtectsBeforeOr (case_of attempt.now.task.now) attempt.now.hidden.now.flags
         attempt.now.cell (length attempt.now.task.now.questions.now) need) }
     ensures err { IfErr result (λ fault. HasFault (case_of attempt.now.task.now) attempt.now.hidden.now.flags
         attempt.now.task.now.limit fault) }
 {
     'places: for place in 0..attempt.task.questions.len() {
-        let need = refusal_of(alloc, attempt, place, spares, last, kept)?;
+        let need = need_at(alloc, attempt, place, reusable, last, kept)?;
         if let Some(need) = need {
             return Ok(Some(need));
         }
@@ -59,11 +59,11 @@ pub(crate) fn first_refused(
 }
 
 // The multipliers of the question at a place, where no world serves it with the cell shown.
-fn refusal_of(
+fn need_at(
     alloc: Global,
     attempt: &Attempt<'_, '_, '_>,
     place: usize,
-    spares: &mut Vec<Spare>,
+    reusable: &mut Vec<ReusableTable>,
     last: &mut Vec<Option<World>>,
     kept: &mut Option<KeptQuestions>,
 ) -> Result<Option<Refuted>, AskFault>
@@ -72,12 +72,12 @@ fn refusal_of(
     requires before { ProtectsBefore (case_of attempt.now.task.now) attempt.now.hidden.now.flags place }
     requires kept { AreKept (case_of attempt.now.task.now) (asked_of 0 attempt.now.task.now.cells.now)
         attempt.now.worlds.now }
-    requires spares { AreSpare (case_of attempt.now.task.now) spares.old.items }
+    requires reusable { AreReusableTables (case_of attempt.now.task.now) reusable.old.items }
     requires last { AreLast (case_of attempt.now.task.now) last.old.items }
     ensures last { AreLast (case_of attempt.now.task.now) last.new.items }
-    ensures spares { IfOk result (λ _. AreSpare (case_of attempt.now.task.now) spares.new.items) }
+    ensures reusable { IfOk result (λ _. AreReusableTables (case_of attempt.now.task.now) reusable.new.items) }
     ensures answers { IfOk result (λ _. StayTrialAnswers (case_of attempt.now.task.now) (attempt.now.cell + 1)
-        attempt.now.hidden.now.flags spares.old.items spares.new.items) }
+        attempt.now.hidden.now.flags reusable.old.items reusable.new.items) }
     ensures ok { IfOk result (λ need. ProtectsBeforeOr (case_of attempt.now.task.now) attempt.now.hidden.now.flags
         attempt.now.cell (place + 1) need) }
     ensures err { IfErr result (λ fault. IsQuestion (case_of attempt.now.task.now) attempt.now.hidden.now.flags
@@ -94,7 +94,7 @@ fn refusal_of(
     }
     let asked = task.questions[place];
     let Some(answer) = ask_kept(alloc, task, attempt.hidden, asked, kept) else {
-        return walked_refusal(alloc, attempt, place, asked, spares);
+        return walked_refusal(alloc, attempt, place, asked, reusable);
     };
     match answer {
         KeptAnswer::Reaches(world) => {
@@ -116,16 +116,16 @@ fn walked_refusal(
     attempt: &Attempt<'_, '_, '_>,
     place: usize,
     asked: (u32, Side),
-    spares: &mut Vec<Spare>,
+    reusable: &mut Vec<ReusableTable>,
 ) -> Result<Option<Refuted>, AskFault>
     requires stands { StandsAt attempt.now.task.now.cells.now asked place }
     requires before { ProtectsBefore (case_of attempt.now.task.now) attempt.now.hidden.now.flags place }
     requires kept { AreKept (case_of attempt.now.task.now) (asked_of 0 attempt.now.task.now.cells.now)
         attempt.now.worlds.now }
-    requires spares { AreSpare (case_of attempt.now.task.now) spares.old.items }
-    ensures spares { IfOk result (λ _. AreSpare (case_of attempt.now.task.now) spares.new.items) }
+    requires reusable { AreReusableTables (case_of attempt.now.task.now) reusable.old.items }
+    ensures reusable { IfOk result (λ _. AreReusableTables (case_of attempt.now.task.now) reusable.new.items) }
     ensures answers { IfOk result (λ _. StayTrialAnswers (case_of attempt.now.task.now) (attempt.now.cell + 1)
-        attempt.now.hidden.now.flags spares.old.items spares.new.items) }
+        attempt.now.hidden.now.flags reusable.old.items reusable.new.items) }
     ensures ok { IfOk result (λ need. ProtectsBeforeOr (case_of attempt.now.task.now) attempt.now.hidden.now.flags
         attempt.now.cell (place + 1) need) }
     ensures err { IfErr result (λ fault. IsQuestion (case_of attempt.now.task.now) attempt.now.hidden.now.flags
@@ -133,13 +133,23 @@ fn walked_refusal(
 {
     let task = attempt.task;
     let flags = attempt.hidden.flags.as_slice();
-    if is_at_hand(task.cells, asked, flags, attempt.worlds, spares.as_slice()) {
+    if is_at_hand(
+        task.cells,
+        asked,
+        flags,
+        attempt.worlds,
+        reusable.as_slice(),
+    ) {
         return Ok(None);
     }
     let answer = ask_walk(alloc, task, attempt.hidden, asked)?;
     match answer {
         KeptAnswer::Reaches(world) => {
-            let Ok(()) = keep_spare(spares, Spare { place, world }, task.questions.len()) else {
+            let Ok(()) = keep_spare(
+                reusable,
+                ReusableTable { place, world },
+                task.questions.len(),
+            ) else {
                 return Err(AskFault::Memory);
             };
             Ok(None)
@@ -159,14 +169,14 @@ fn is_at_hand(
     asked: (u32, Side),
     flags: &[bool],
     worlds: &[World],
-    spares: &[Spare],
+    reusable: &[ReusableTable],
 ) -> bool
     requires primary { IsOfKind cells.now asked.0 PrimaryKind }
     ensures { (cell : AnyCell) → slice_get cells.now asked.0 ≡ Some cell
-        → result ≡ spec.is_at_hand cell asked flags.now worlds.now spares.now }
+        → result ≡ spec.is_at_hand cell asked flags.now worlds.now reusable.now }
 {
     let cell = &cells[asked.0 as usize];
-    is_served(cell, asked, flags, worlds) || is_served_by_spare(cell, asked, flags, spares)
+    is_served(cell, asked, flags, worlds) || is_served_by_spare(cell, asked, flags, reusable)
 }
 
 // Whether one of these worlds takes a cell to its level to a side with hidden cells alone.
@@ -178,11 +188,16 @@ fn is_served(cell: &Cell, asked: (u32, Side), flags: &[bool], worlds: &[World]) 
         .any(|world| serves_beside(cell, asked, flags, world))
 }
 
-// The same of spares.
-fn is_served_by_spare(cell: &Cell, asked: (u32, Side), flags: &[bool], spares: &[Spare]) -> bool
-    ensures { result ≡ list_any (λ spare. spec.serves_beside cell.now asked flags.now spare.world) spares.now }
+// The same of reusable tables.
+fn is_served_by_spare(
+    cell: &Cell,
+    asked: (u32, Side),
+    flags: &[bool],
+    reusable: &[ReusableTable],
+) -> bool
+    ensures { result ≡ list_any (λ spare. spec.serves_beside cell.now asked flags.now spare.world) reusable.now }
 {
-    spares
+    reusable
         .iter()
         .any(|spare| serves_beside(cell, asked, flags, &spare.world))
 }
@@ -195,12 +210,16 @@ fn serves_beside(cell: &Cell, asked: (u32, Side), flags: &[bool], world: &World)
 }
 
 // Keeps a spare, where there aren't as many already as there may be.
-fn keep_spare(spares: &mut Vec<Spare>, spare: Spare, most: usize) -> Result<(), Memory>
-    ensures ok { OnOk result (spares.new.items ≡ spec.spares_with spares.old.items most spare) }
-    ensures err { OnErr result (spares.new.items ≡ spares.old.items) }
+fn keep_spare(
+    reusable: &mut Vec<ReusableTable>,
+    spare: ReusableTable,
+    most: usize,
+) -> Result<(), Memory>
+    ensures ok { OnOk result (reusable.new.items ≡ spec.spares_with reusable.old.items most spare) }
+    ensures err { OnErr result (reusable.new.items ≡ reusable.old.items) }
 {
-    if spares.len() < most {
-        spares.push(spare)?;
+    if reusable.len() < most {
+        reusable.push(spare)?;
     }
     Ok(())
 }

@@ -10,7 +10,7 @@ use crate::attempt::Attempt;
 use crate::progress::Progress;
 use crate::renewing::{drop_unfit, renew_all};
 use crate::task::Task;
-use crate::trial::{Spare, first_refused};
+use crate::trial::{ReusableTable, first_need};
 use interval_audit::AskFault;
 use sdc_base::{Cell, Items, is_hidden};
 use std::alloc::Global;
@@ -24,7 +24,7 @@ pub(crate) struct Findings {
     /// The cells that are shown.
     pub(crate) shown: Items<u32>,
     /// Worlds at hand beside the kept ones, at most as many as there are questions; none moves a cell that is shown.
-    pub(crate) spares: Vec<Spare>,
+    pub(crate) reusable: Vec<ReusableTable>,
     /// For each question, in its order, the last world that a trial found for it, if any.
     pub(crate) last: Vec<Option<World>>,
 }
@@ -61,7 +61,7 @@ pub(crate) fn try_all(
         task,
         &progress.hidden,
         &mut progress.worlds,
-        &mut tried.spares,
+        &mut tried.reusable,
         &mut progress.kept,
     )
 }
@@ -104,16 +104,16 @@ fn try_one(
         hidden: &progress.hidden,
         worlds: progress.worlds.as_slice(),
     };
-    let found = first_refused(
+    let found = first_need(
         alloc,
         &attempt,
-        &mut tried.spares,
+        &mut tried.reusable,
         &mut tried.last,
         &mut progress.kept,
     )?;
     match found {
         None => {
-            drop_unfit(&mut tried.spares, progress.hidden.flags.as_slice());
+            drop_unfit(&mut tried.reusable, progress.hidden.flags.as_slice());
             Ok(())
         }
         Some(need) => put_back(cell, need, progress, tried),
@@ -131,7 +131,7 @@ fn put_back(
     ensures flags { progress.new.hidden.flags ≡ hide progress.old.hidden.flags cell }
     ensures worlds { progress.new.worlds ≡ progress.old.worlds }
     ensures repairs { progress.new.repairs ≡ progress.old.repairs }
-    ensures spares { tried.new.spares ≡ tried.old.spares }
+    ensures reusable { tried.new.reusable ≡ tried.old.reusable }
     ensures last { tried.new.last ≡ tried.old.last }
     ensures needs { OnOk result (tried.new.needs ≡ tried.old.needs ++ need ∷ []) }
     ensures shown { OnOk result ((earlier : List ℕ) (last : ℕ) → tried.old.shown ≡ earlier ++ last ∷ []

@@ -75,13 +75,13 @@ abbrev pub primary_cells : List Cell → List ℕ
 primary_cells cells = filter (is_primary_at cells) (range_with_len 0 (length cells))
 
 -- The end is a whole number of units, and the world beside it is one in whole units. Not: an end of 9 over 2.
-pub record IsWhole (end : AuditedEnd) : Type 0 where
+pub record IsIntegral (end : AuditedEnd) : Type 0 where
   pub value : end.value.den ≡ 1
   pub world : end.world.den ≡ pos 1
 
 -- both ends of a cell are whole
 abbrev pub HasWholeEnds : AuditedCell → Type 0
-HasWholeEnds one = IsWhole one.below × IsWhole one.above
+HasWholeEnds one = IsIntegral one.below × IsIntegral one.above
 
 -- the audit of a rounded release: the two ends of each primary cell, ascending
 pub record IsAudit (system : System) (cells : List Cell) (values : List ℤ) (base : ℤ)

@@ -7,7 +7,7 @@ ghost use Rattle.interval_audit.specs.Ends.{IsIntervalCause, IsTrueEnd, IsWholeE
 ghost use Rattle.interval_audit.specs.WalkLimits.{HasNoWalk as HasNoQuestionWalk};
 ghost use Rattle.cell_intervals.specs.IntervalFaults.{HasBothEnds, HasSmallComponent};
 ghost use Rattle.rounding_audit.specs.AuditFaults.{HasNoWalk, IsAuditFault, IsQuestionFault};
-ghost use Rattle.rounding_audit.specs.Audits.{HasWholeEnds, IsAudit, IsAuditedCell, IsAuditedEnd, IsWhole};
+ghost use Rattle.rounding_audit.specs.Audits.{HasWholeEnds, IsAudit, IsAuditedCell, IsAuditedEnd, IsIntegral};
 ghost use Rattle.rounding_audit.specs.EndValues.{AreWholeEnds, IsEndValue};
 ghost use Rattle.rounding_audit.specs.ReaderFaults.{truths_of};
 ghost use Rattle.rounding_audit.specs.Readers as readers;
@@ -267,7 +267,7 @@ fn end_from(
     ensures right { IsAuditedEnd reader.now.system.now reader.now.cells.now reader.now.values.now reader.now.base number
         side result }
     ensures whole { IsWholeEnd reader.now.system.now reader.now.known.now reader.now.hidden.now.flags number side answer
-        → value.den ≡ 1 → IsWhole result }
+        → value.den ≡ 1 → IsIntegral result }
 {
     match answer {
         Answer::Stops {

@@ -1,5 +1,5 @@
 ghost use Rattle.std.specs.Prelude.{◌≡◌, ◌≤ℤ◌, ◌^◌, pos, length, All};
-ghost use Rattle.sdc_base.specs.Grounds.{IsGround};
+ghost use Rattle.sdc_base.specs.Patterns.{IsPattern};
 ghost use Rattle.rounding_audit.specs.Readers.{AreReaderCells, all_hidden};
 
 use interval_audit::SignedSystem;
@@ -18,6 +18,6 @@ pub(crate) struct Reader<'a> {
     ghost each_cell: { length cells.now ≡ system.now.cells },
     ghost known_are: { AreReaderCells cells.now values.now base known.now },
     ghost flags: { hidden.now.flags ≡ all_hidden system.now.cells },
-    ghost ground: { IsGround system.now known.now hidden.now.flags },
+    ghost ground: { IsPattern system.now known.now hidden.now.flags },
     ghost truths: { All (λ cell. cell.truth ≤ℤ pos (10 ^ 29)) known.now },
 }

@@ -8,7 +8,7 @@ use Rattle.std.proofs.lemmas.List.{get_or_past, take_all, take_more}
 use Rattle.std.proofs.lemmas.List.FromFn.{get_or-range_with_len, length-range_with_len}
 use Rattle.sdc_base.specs.declared.relation.Relation.{Relation}
 use Rattle.sdc_base.specs.HiddenSets.{is_hidden}
-use Rattle.sdc_base.specs.Components.{AreComponents, IsChain, AreLinked, component, names}
+use Rattle.sdc_base.specs.Components.{AreComponents, IsChain, AreLinked, component, mentions}
 use Rattle.sdc_base.specs.Forests.{AreNumbered, IsForest, Joins, LeadsTo, Meet, ascend}
 use Rattle.sdc_base.proofs.Chains.{linked-same}
 use Rattle.sdc_base.proofs.Forest.{leads-to_end, meet-linked, meet-then, meet-turned}
@@ -146,7 +146,7 @@ total-joined flags lower first total joined cell named hidden =
     let same : total ≡ cell = (Decides-eqb total cell).0 (or-false (total == cell) named) in
     subst (Meet lower first) same (joined (ap (is_hidden flags) same ∙ hidden))
 
-pub part-named : (r : Relation) (k : ℕ) → k < length r.parts → names r (slice_index r.parts k) ≡ true
+pub part-named : (r : Relation) (k : ℕ) → k < length r.parts → mentions r (slice_index r.parts k) ≡ true
 part-named r k inside = ap (λ b. r.total == slice_index r.parts k || b) (among r.parts k inside) ∙ or-true (r.total == slice_index r.parts k)
   where
     among : (parts : List ℕ) (k : ℕ) → k < length parts → list_any (λ part. part == slice_index parts k) parts ≡ true
@@ -178,7 +178,7 @@ pub all-joined : (flags : List Bool) (lower : List ℕ) (first : ℕ) (r : Relat
 all-joined flags lower first r k past falls joined = λ one other hidden hidden_other named named_other.
     meet-then lower falls one first other (meet-turned lower first one (joined one (whole one ∙ named) hidden)) (joined other (whole other ∙ named_other) hidden_other)
   where
-    whole : (cell : ℕ) → names_first r.total r.parts k cell ≡ names r cell
+    whole : (cell : ℕ) → names_first r.total r.parts k cell ≡ mentions r cell
     whole cell = ap (λ list. r.total == cell || list_any (λ part. part == cell) list) (take_all k r.parts past)
 
 -- ---- what holds of an answer

@@ -10,7 +10,7 @@ use Rattle.std.proofs.lemmas.List.Folds.{list_any-append}
 use Rattle.std.proofs.lemmas.List.FromFn.{get_or-map-range_with_len, length-map-range_with_len}
 use Rattle.sdc_base.specs.declared.relation.Relation.{Relation}
 use Rattle.sdc_base.specs.HiddenSets.{is_hidden}
-use Rattle.sdc_base.specs.Components.{AreComponents, component, is_of, names}
+use Rattle.sdc_base.specs.Components.{AreComponents, component, is_of, mentions}
 use Rattle.sdc_base.specs.ComponentRows.{lists_in, put_in, stands_in}
 use Rattle.sdc_base.proofs.Chains.{linked-related}
 use Rattle.sdc_base.proofs.Connecting.{alone-more}
@@ -39,10 +39,10 @@ part-cell of number (part ∷ parts) h = pick (λ later. part-cell of number par
     pick rest (inr later) = let found = rest later in (found.0, ap (λ b. part == found.0 || b) found.1 ∙ or-true (part == found.0), found.2)
 
 -- a cell that the relation names is in the component
-standing-cell : (of : List (Option ℕ)) (number : ℕ) (r : Relation) → stands_in of number r ≡ true → (cell : ℕ) × (names r cell ≡ true) × (component of cell ≡ Some number)
+standing-cell : (of : List (Option ℕ)) (number : ℕ) (r : Relation) → stands_in of number r ≡ true → (cell : ℕ) × (mentions r cell ≡ true) × (component of cell ≡ Some number)
 standing-cell of number r h = by (either (is_of number (component of r.total)) (list_any (λ part. is_of number (component of part)) r.parts) h)
   where
-    by : (is_of number (component of r.total) ≡ true) ⊎ (list_any (λ part. is_of number (component of part)) r.parts ≡ true) → (cell : ℕ) × (names r cell ≡ true) × (component of cell ≡ Some number)
+    by : (is_of number (component of r.total) ≡ true) ⊎ (list_any (λ part. is_of number (component of part)) r.parts ≡ true) → (cell : ℕ) × (mentions r cell ≡ true) × (component of cell ≡ Some number)
     by (inl total) = (r.total, ap (λ b. b || list_any (λ part. part == r.total) r.parts) ((Decides-eqb r.total r.total).1 refl), of-some number (component of r.total) total)
     by (inr part) = let found = part-cell of number r.parts part in (found.0, ap (λ b. r.total == found.0 || b) found.1 ∙ or-true (r.total == found.0), found.2)
 

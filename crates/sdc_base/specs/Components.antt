@@ -7,8 +7,8 @@ use Rattle.sdc_base.specs.Places.{count}
 use Rattle.sdc_base.specs.HiddenSets.{is_hidden}
 
 -- the relation names the cell, as its total or as one of its parts
-abbrev pub names : Relation → ℕ → Bool
-names r cell = r.total == cell || list_any (λ part. part == cell) r.parts
+abbrev pub mentions : Relation → ℕ → Bool
+mentions r cell = r.total == cell || list_any (λ part. part == cell) r.parts
 
 -- both cells are hidden, and one relation names both
 pub record AreRelated (relations : List Relation) (flags : List Bool) (one other : ℕ) : Type 0 where
@@ -17,8 +17,8 @@ pub record AreRelated (relations : List Relation) (flags : List Bool) (one other
   pub number : ℕ
   pub relation : Relation
   pub at : slice_get relations number ≡ Some relation
-  pub names_one : names relation one ≡ true
-  pub names_other : names relation other ≡ true
+  pub names_one : mentions relation one ≡ true
+  pub names_other : mentions relation other ≡ true
 
 -- a chain of so many steps, each from a hidden cell to another by one relation
 abbrev pub IsChain : List Relation → List Bool → ℕ → ℕ → ℕ → Type 0

@@ -2,7 +2,7 @@
 use Rattle.std.specs.Prelude.{◌≡◌, ℕ, zero, suc, ◌<◌, ◌≤◌, Bool, true, false, List, length, slice_index, Option, None, Some}
 use Rattle.sdc_base.specs.Places.{count}
 use Rattle.sdc_base.specs.HiddenSets.{is_hidden}
-use Rattle.sdc_base.specs.Components.{AreLinked, component, is_of, names}
+use Rattle.sdc_base.specs.Components.{AreLinked, component, is_of, mentions}
 use Rattle.sdc_base.specs.declared.relation.Relation.{Relation}
 
 -- the cell that so many steps lead to
@@ -27,8 +27,8 @@ pub record IsForest (relations : List Relation) (flags : List Bool) (cells : ℕ
 -- the hidden cells that the relation names meet
 abbrev pub Joins : List Bool → List ℕ → Relation → Type 0
 Joins flags lower r =
-    (one other : ℕ) → is_hidden flags one ≡ true → is_hidden flags other ≡ true → names r one ≡ true
-    → names r other ≡ true → Meet lower one other
+    (one other : ℕ) → is_hidden flags one ≡ true → is_hidden flags other ≡ true → mentions r one ≡ true
+    → mentions r other ≡ true → Meet lower one other
 
 -- the numbers of the cells' components so far, and how many cells each has
 pub record AreNumbered (flags : List Bool) (lower : List ℕ) (of : List (Option ℕ)) (sizes : List ℕ) : Type 0 where

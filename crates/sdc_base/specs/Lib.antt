@@ -35,7 +35,7 @@ pub mod Signs
 pub mod Ends
 pub mod Links
 pub mod Refutations
-pub mod Grounds
+pub mod Patterns
 pub mod Cubes
 pub mod CubeOrder
 pub mod Subtables

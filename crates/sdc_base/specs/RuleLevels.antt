@@ -41,12 +41,12 @@ rest_beside_two cell = cell.truth +ℤ neg_ℤ (cell.largest 2)
 -- The rule names the cell: too few records; the n largest above k percent of the truth; the rest below p percent of
 -- the largest; q percent of the rest below p percent of the largest; or a truth of 0 over some records. All comparisons
 -- are strict, so exactly k percent, or exactly p percent, name no cell.
-abbrev pub names : Rule → Figures → Bool
-names (rule.Freq n r) cell = frequency_names n cell.freq
-names (rule.Nk n k) cell = int_lt (pos k *ℤ cell.truth) (pos 100 *ℤ cell.largest n)
-names (rule.Percent p) cell = int_lt (pos 100 *ℤ rest_beside_two cell) (pos p *ℤ cell.largest 1)
-names (rule.Pq p q) cell = int_lt (pos q *ℤ rest_beside_two cell) (pos p *ℤ cell.largest 1)
-names (rule.Zero r) cell = nat_le 1 cell.freq && int_eq cell.truth (pos 0)
+abbrev pub is_sensitive_by : Rule → Figures → Bool
+is_sensitive_by (rule.Freq n r) cell = frequency_names n cell.freq
+is_sensitive_by (rule.Nk n k) cell = int_lt (pos k *ℤ cell.truth) (pos 100 *ℤ cell.largest n)
+is_sensitive_by (rule.Percent p) cell = int_lt (pos 100 *ℤ rest_beside_two cell) (pos p *ℤ cell.largest 1)
+is_sensitive_by (rule.Pq p q) cell = int_lt (pos q *ℤ rest_beside_two cell) (pos p *ℤ cell.largest 1)
+is_sensitive_by (rule.Zero r) cell = nat_le 1 cell.freq && int_eq cell.truth (pos 0)
 
 -- a fraction of whole numbers, its denominator above 0
 pub record Fraction : Type 0 where
@@ -89,7 +89,7 @@ greater_number n (Some m) = if int_lt n m then m else n
 -- the greatest upper level of the rules that name the cell, where one does
 abbrev pub upper_of : List Rule → Figures → Option ℤ
 upper_of [] cell = None
-upper_of (one ∷ rules) cell = if names one cell
+upper_of (one ∷ rules) cell = if is_sensitive_by one cell
     then Some (greater_number (rounded_up (wanted_level one cell)) (upper_of rules cell)) else upper_of rules cell
 
 -- levels with this upper one: the lower one is the lesser of it and the truth

@@ -2,7 +2,7 @@ ghost use Rattle.std.specs.Prelude.{◌≡◌, ◌<◌, ◌≤◌, ◌^◌, ◌+
 ghost use Rattle.std.specs.List.{range_with_len};
 ghost use Rattle.sdc_base.specs.declared.relation.Relation.{Relation as AnyRelation};
 ghost use Rattle.sdc_base.specs.HiddenSets as spec;
-ghost use Rattle.sdc_base.specs.Components.{AreComponents, AreLinked, component, names};
+ghost use Rattle.sdc_base.specs.Components.{AreComponents, AreLinked, component, mentions};
 ghost use Rattle.sdc_base.specs.Forests.{AreNumbered, IsForest, Joins, LeadsTo, Meet};
 
 use crate::hidden::{Hidden, is_hidden};
@@ -83,9 +83,10 @@ fn join_relation(system: &System, relation: &Relation, flags: &[bool], lower: &m
 
 // The first hidden cell that a relation names: its total, or else a part.
 fn first_hidden(relation: &Relation, flags: &[bool]) -> Option<u32>
-    ensures none { result ≡ None → (cell : ℕ) → names relation.now cell ≡ true → spec.is_hidden flags.now cell ≡ false }
+    ensures none { result ≡ None → (cell : ℕ) → mentions relation.now cell ≡ true
+        → spec.is_hidden flags.now cell ≡ false }
     ensures hidden { IfSome result (λ cell. spec.is_hidden flags.now cell ≡ true) }
-    ensures named { IfSome result (λ cell. names relation.now cell ≡ true) }
+    ensures named { IfSome result (λ cell. mentions relation.now cell ≡ true) }
 {
     if is_hidden(flags, relation.total as usize) {
         return Some(relation.total);
@@ -111,8 +112,8 @@ fn join_hidden(
     requires each { length flags.now ≡ system.now.cells }
     requires forest { IsForest system.now.relations flags.now system.now.cells lower.old.items }
     requires hidden { spec.is_hidden flags.now first ≡ true }
-    requires first_named { names relation.now first ≡ true }
-    requires cell_named { names relation.now cell ≡ true }
+    requires first_named { mentions relation.now first ≡ true }
+    requires cell_named { mentions relation.now cell ≡ true }
     ensures forest { IsForest system.now.relations flags.now system.now.cells lower.new.items }
     ensures kept { (one other : ℕ) → Meet lower.old.items one other → Meet lower.new.items one other }
     ensures joined { spec.is_hidden flags.now cell ≡ true → Meet lower.new.items first cell }

@@ -8,7 +8,7 @@ use Rattle.sdc_base.specs.Totals.{sum_below}
 use Rattle.sdc_base.proofs.TotalLemmas.{sum_of-cons, sum_below-same, only}
 use Rattle.sdc_base.proofs.WholeNumbers.{distrib, swap_times, times_up}
 use Rattle.tableau.specs.Amounts.{value_of}
-use Rattle.tableau.specs.PartProblems.{Selection, widened, SelectsRows, IsPartOf, IsBlockedIn}
+use Rattle.tableau.specs.PartProblems.{Selection, amounts_in_whole, SelectsRows, IsPartOf, IsBlockedIn}
 use Rattle.tableau.specs.declared.problem.Problem.{Problem}
 use Rattle.tableau.specs.Problems.{NamesColumns, number_for, rows_of, row_at, slack, first_table}
 use Rattle.tableau.specs.RowLists.{list_size, objective_list}
@@ -251,7 +251,7 @@ pub record IsWidened (s : Selection) (part whole : Problem) (last : Table) : Typ
 
 -- the smaller problem's lists of columns, as lists of the larger one's
 pub wide_list : Selection → Problem → Table → ℕ → ℕ → ℤ
-wide_list s part last i = widened s (λ v. padded s (list_for part last v) i)
+wide_list s part last i = amounts_in_whole s (λ v. padded s (list_for part last v) i)
 
 -- and those of its slacks; other rows have what their bounds leave
 pub wide_slack : Selection → Problem → Problem → Table → ℕ → ℕ → ℤ

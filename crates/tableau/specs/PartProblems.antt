@@ -18,12 +18,12 @@ pub record Selection : Type 0 where
   pub leaves_out : ℕ → Bool
 
 -- amounts of the smaller problem's columns, with 0 at all others
-abbrev pub widened : Selection → (ℕ → ℤ) → ℕ → ℤ
-widened s amounts column = if s.has_column column then amounts (s.column_in_part column) else pos 0
+abbrev pub amounts_in_whole : Selection → (ℕ → ℤ) → ℕ → ℤ
+amounts_in_whole s amounts column = if s.has_column column then amounts (s.column_in_part column) else pos 0
 
 -- amounts of the larger problem's columns, of which the smaller one's are taken
-abbrev pub narrowed : Selection → (ℕ → ℤ) → ℕ → ℤ
-narrowed s amounts column = amounts (s.column_in_whole column)
+abbrev pub amounts_in_part : Selection → (ℕ → ℤ) → ℕ → ℤ
+amounts_in_part s amounts column = amounts (s.column_in_whole column)
 
 -- the selection's rows, in the order in which they stand in the larger problem
 pub record SelectsRows (s : Selection) (part whole : ℕ) : Type 0 where
@@ -40,17 +40,18 @@ pub record IsPartOf (s : Selection) (part whole : Problem) : Type 0 where
   pub bounds : (k : ℕ) → k < length (rows_of part) → (row_at part k).bound ≡ (row_at whole (s.row_in_whole k)).bound
   pub target : part.target ≡ whole.target
   pub widened_rows : (amounts : ℕ → ℤ) (k : ℕ) → k < length (rows_of part) →
-      value_of (widened s amounts) (row_at whole (s.row_in_whole k)).entries ≡ value_of amounts (row_at part k).entries
+      value_of (amounts_in_whole s amounts) (row_at whole (s.row_in_whole k)).entries
+      ≡ value_of amounts (row_at part k).entries
   pub other_rows : (amounts : ℕ → ℤ) (k : ℕ) → k < length (rows_of whole) → s.has_row k ≡ false →
-      value_of (widened s amounts) (row_at whole k).entries ≡ pos 0
+      value_of (amounts_in_whole s amounts) (row_at whole k).entries ≡ pos 0
   pub widened_objective : (amounts : ℕ → ℤ) →
-      value_of (widened s amounts) whole.objective ≡ value_of amounts part.objective
+      value_of (amounts_in_whole s amounts) whole.objective ≡ value_of amounts part.objective
   pub narrowed_rows : (amounts : ℕ → ℤ) (k : ℕ) → ((column : ℕ) → s.leaves_out column ≡ true → amounts column ≡ pos 0) →
       k < length (rows_of part) →
-      value_of (narrowed s amounts) (row_at part k).entries
+      value_of (amounts_in_part s amounts) (row_at part k).entries
       ≡ value_of amounts (row_at whole (s.row_in_whole k)).entries
   pub narrowed_objective : (amounts : ℕ → ℤ) → ((column : ℕ) → s.leaves_out column ≡ true → amounts column ≡ pos 0) →
-      value_of (narrowed s amounts) part.objective ≡ value_of amounts whole.objective
+      value_of (amounts_in_part s amounts) part.objective ≡ value_of amounts whole.objective
 
 -- The larger problem's table is one that can't be improved in the smaller one: the columns that are left out are no
 -- members, the objective is below the target, and no number in its row is below 0 at the smaller one's columns and at

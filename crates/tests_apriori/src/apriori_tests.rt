@@ -8,7 +8,7 @@ use PriorWhy::{
     BadNumber, BadShape, EmptyUnsafe, OutsideTruth, ProtectedPrimary, Twice, UnknownCode,
 };
 use apriori::{Prior, PriorError, PriorWhy, apply, blank_priors, settle};
-use kit_records::{places, tree};
+use fixture_records::{places, tree};
 use linked_tables::{Book, Mark};
 use primary_rules::keep;
 use sdc_base::{Cell, CellFacts, Few, Kind, Rule, Rules, Tops};

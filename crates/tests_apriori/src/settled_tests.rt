@@ -1,6 +1,6 @@
 use crate::apriori_tests::{MARGINS, added, are_ready, book_of, frequency_rule};
 use apriori::{blank_priors, settle};
-use kit_cells::hidden_of;
+use fixture_cells::hidden_of;
 use linked_tables::Book;
 use relations::relations_of;
 use sdc_base::{Cell, Items, Side, System};

@@ -3,7 +3,7 @@ use crate::tables::{
     TWO_BY_TWO_BY_TWO, make_small,
 };
 use compact_search::{CompactSearch, Found};
-use kit_cells::{TWO_BY_TWO, hidden_of};
+use fixture_cells::{TWO_BY_TWO, hidden_of};
 use sdc_base::{Hidden, Items, Side};
 use std::alloc::Global;
 use std::rt::HostRuntime;

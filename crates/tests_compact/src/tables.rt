@@ -1,5 +1,5 @@
 // Small tables: a system with its cells, and the hidden ones.
-use kit_cells::{cell_of, hidden_of, system_of};
+use fixture_cells::{cell_of, hidden_of, system_of};
 use sdc_base::{Cell, Hidden, Kind, System};
 use std::alloc::{AllocError, Global};
 

@@ -2,7 +2,7 @@ ghost use Rattle.std.specs.Prelude.{◌≡◌, ◌≤◌, ◌^◌, ◌<◌, true
 ghost use Rattle.tabulate.specs.TabulatedMarks.{CanBeTabulated, HasNone, IsRow};
 
 use attackers::soles;
-use kit_records::{pairs, places, rows, thirteen};
+use fixture_records::{pairs, places, rows, thirteen};
 use linked_tables::{Book, Mark};
 use sdc_base::{Place, Row};
 use std::alloc::Global;

@@ -1,8 +1,8 @@
 //! Books whose cells have stated truths, for tests.
 
 use code_trees::CodeTree;
-use kit_cells::set_truth;
-use kit_records::places;
+use fixture_cells::set_truth;
+use fixture_records::places;
 use linked_tables::Book;
 use std::alloc::Global;
 use std::test::Fail;

@@ -8,7 +8,7 @@ ghost use Rattle.repair.specs.KeptWorlds.{HasModestLevels};
 use crate::costs::is_costed;
 use crate::lines::{stop_lines, verdict_lines};
 use cost_rule::{CostKind, CostRule, TellsCosts};
-use kit_cells::{TWO_BY_TWO, cell_of, shown_cell, system_of};
+use fixture_cells::{TWO_BY_TWO, cell_of, shown_cell, system_of};
 use linked_tables::Mark;
 use repair::protect;
 use sdc_base::{Cell, CellFacts, Items, Kind, Place, PlanStep, Tops, Trail};

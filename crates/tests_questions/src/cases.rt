@@ -1,6 +1,6 @@
 //! What is asked of in tests: a system, its cells and which are hidden.
 
-use kit_cells::{TWO_BY_TWO, cell_within, hidden_of, system_of};
+use fixture_cells::{TWO_BY_TWO, cell_within, hidden_of, system_of};
 use sdc_base::{Cell, Hidden, System};
 use std::alloc::Global;
 use std::test::Fail;

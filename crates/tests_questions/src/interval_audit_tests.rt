@@ -3,8 +3,8 @@ ghost use Rattle.std.specs.Prelude.{◌<◌, true};
 use crate::cases::{
     Case, FOUR_HIDDEN, FOUR_HIDDEN_BOUNDED, RING_OF_THREE, Sketch, case_of, parts_hidden,
 };
+use fixture_cells::TWO_BY_TWO;
 use interval_audit::{Answer, AskFault, Question, TwoEnds, ask, interval, problem_of};
-use kit_cells::TWO_BY_TWO;
 use sdc_base::{Side, components};
 use std::alloc::Global;
 use std::rt::HostRuntime;

@@ -1,6 +1,6 @@
+use fixture_cells::{cell_of, hidden_of, system_of};
 use interval_audit::{Answer, Question, ask};
 use kept_questions::{KeptAnswer, KeptQuestions};
-use kit_cells::{cell_of, hidden_of, system_of};
 use sdc_base::{Cell, Hidden, Kind, Side, System};
 use std::alloc::{AllocError, Global};
 use std::rt::HostRuntime;

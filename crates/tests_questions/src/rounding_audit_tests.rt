@@ -1,6 +1,6 @@
 ghost use Rattle.std.specs.Prelude.{◌≡◌, ◌≤ℤ◌, ◌^◌, All, true, pos};
 
-use kit_cells::{TWO_BY_TWO, cell_of, system_of};
+use fixture_cells::{TWO_BY_TWO, cell_of, system_of};
 use rounding_audit::{AuditFault, AuditedCell, ReaderFault, audit_of, audit_text, exposed_in};
 use sdc_base::{Cell, Items, Kind, System};
 use std::alloc::Global;

@@ -3,7 +3,7 @@ ghost use Rattle.sdc_base.specs.Systems.{NamesCells, HoldOn, form, number_at};
 ghost use Rattle.rounding.specs.Tasks.{IsProper};
 ghost use Rattle.sdc_base.specs.Truths.{IsTruth};
 
-use kit_cells::{TWO_BY_TWO, system_of};
+use fixture_cells::{TWO_BY_TWO, system_of};
 use rounding::{RoundFault, round};
 use sdc_base::{Relation, System};
 use std::alloc::Global;

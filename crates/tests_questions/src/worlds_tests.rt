@@ -1,7 +1,7 @@
 ghost use Rattle.std.specs.Prelude.{◌<◌, true};
 ghost use Rattle.sdc_base.specs.declared.cell.Kind.TheVariants.{Primary};
 
-use kit_cells::{SHOWN_MARGINS, TWO_BY_TWO, cell_of, hidden_of, shown_cell, system_of};
+use fixture_cells::{SHOWN_MARGINS, TWO_BY_TWO, cell_of, hidden_of, shown_cell, system_of};
 use sdc_base::{Cell, Hidden, Items, Kind, Side, System};
 use std::alloc::Global;
 use std::rt::HostRuntime;

@@ -4,8 +4,8 @@ ghost use Rattle.cert_check.specs.Cases.{IsCase};
 
 use cert_check::{Case, CheckFault, accept};
 use certificate::{Certificate, read_certificate};
-use kit_cells::{SHOWN_MARGINS, cell_of, set_truth};
-use kit_records::{pairs, places, texts};
+use fixture_cells::{SHOWN_MARGINS, cell_of, set_truth};
+use fixture_records::{pairs, places, texts};
 use linked_tables::{Book, Mark};
 use relations::relations_of;
 use sdc_base::{Cell, Few, Items, Kind, Method, PlanStep, Side, System, Text, Trail};

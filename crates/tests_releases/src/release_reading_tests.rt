@@ -2,8 +2,8 @@ ghost use Rattle.std.specs.Prelude.{◌≡◌, ◌≤◌, [], length, slice_inde
 ghost use Rattle.release_writer.specs.Sheets.{HaveNames};
 
 use crate::release_writer_tests::are_from_zero;
-use kit_cells::set_truth;
-use kit_records::{places, texts, tree};
+use fixture_cells::set_truth;
+use fixture_records::{places, texts, tree};
 use linked_tables::Book;
 use release_writer::{ReleaseFault, hidden_of, rounded_of};
 use sdc_base::{Items, Text};

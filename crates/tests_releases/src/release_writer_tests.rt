@@ -2,7 +2,7 @@ ghost use Rattle.std.specs.Prelude.{◌≡◌, true, All, pos, ◌≤ℤ◌, ◌
 ghost use Rattle.sdc_base.specs.Numbers.{too_wide};
 ghost use Rattle.release_writer.specs.ShownCells.{CanBeShown};
 
-use kit_records::{places, texts, tree};
+use fixture_records::{places, texts, tree};
 use linked_tables::{Book, Mark};
 use release_writer::{Shown, table_bytes};
 use sdc_base::{Hidden, Items, Text};

@@ -1,5 +1,5 @@
 use code_trees::{CodeTree, flat};
-use kit_records::place;
+use fixture_records::place;
 use linked_tables::{Book, BookFault};
 use sdc_base::Text;
 use std::alloc::Global;

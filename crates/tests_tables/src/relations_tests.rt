@@ -1,7 +1,7 @@
 ghost use Rattle.std.specs.Prelude.{◌≡◌, ◌≤◌, length, IfOk};
 
-use kit_cells::TWO_BY_TWO;
-use kit_records::{pairs, places, regions, tree};
+use fixture_cells::TWO_BY_TWO;
+use fixture_records::{pairs, places, regions, tree};
 use linked_tables::Book;
 use relations::{components, relations_of, rows_of, signs};
 use sdc_base::{Hidden, Items, Memory, Relation, System};

@@ -1,7 +1,7 @@
 ghost use Rattle.std.specs.Prelude.{None, slice_get, ◌≡◌, ◌<◌, ◌≤◌, ◌^◌, ℕ, [], true, length, slice_index, slice_index_or, All, pos, ◌≤ℤ◌, ◌<ℤ◌};
 ghost use Rattle.tabulate.specs.TabulatedMarks.{CanBeTabulated, HasNone, IsRow};
 
-use kit_records::{Record, pairs, places, regions, rows, thirteen, two_codes};
+use fixture_records::{Record, pairs, places, regions, rows, thirteen, two_codes};
 use linked_tables::{Book, Mark};
 use sdc_base::{Place, Row};
 use std::alloc::Global;

@@ -1,4 +1,4 @@
-ghost use Rattle.sdc_base.specs.Grounds.{IsGround};
+ghost use Rattle.sdc_base.specs.Patterns.{IsPattern};
 
 use sdc_base::{Cell, Hidden, System};
 
@@ -11,5 +11,5 @@ pub struct Pattern<'a> {
     pub cells: &'a [Cell],
     /// Which cells are hidden, a flag for each.
     pub hidden: &'a Hidden,
-    ghost one_each: { IsGround system.now cells.now hidden.now.flags },
+    ghost one_each: { IsPattern system.now cells.now hidden.now.flags },
 }

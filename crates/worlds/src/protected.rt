@@ -1,5 +1,5 @@
 ghost use Rattle.std.specs.Prelude.{◌≡◌, ◌↔◌, length, Ok, Err, IfOk, IfErr};
-ghost use Rattle.sdc_base.specs.Grounds.{IsGround};
+ghost use Rattle.sdc_base.specs.Patterns.{IsPattern};
 ghost use Rattle.worlds.specs.ProtectFaults.{protect_fault, IsProtecting};
 ghost use Rattle.worlds.specs.Protection.{protection};
 
@@ -46,7 +46,7 @@ impl<'a> Protected<'a> {
         worlds: Items<World>,
         scratch: &mut [i128],
     ) -> Result<Protected<'a>, ProtectFault>
-        requires ground { IsGround system.now cells.now hidden.flags }
+        requires ground { IsPattern system.now cells.now hidden.flags }
         requires scratch { length scratch.old ≡ system.now.cells }
         ensures ok { IfOk result (λ p. protect_fault system.now cells.now hidden.flags worlds ≡ Ok tt) }
         ensures err { IfErr result (λ fault. protect_fault system.now cells.now hidden.flags worlds ≡ Err fault) }

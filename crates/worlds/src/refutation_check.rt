@@ -1,6 +1,6 @@
 ghost use Rattle.std.specs.Prelude.{◌≡◌, ◌↔◌, ℕ, ◌<◌, ◌≤ℤ◌, ℤ, pos, length, replicate, All, Err, IsOk, IfOk, OnOk, IfErr, Ok};
 ghost use Rattle.sdc_base.specs.Forms.{coefficient};
-ghost use Rattle.sdc_base.specs.Grounds.{IsGround};
+ghost use Rattle.sdc_base.specs.Patterns.{IsPattern};
 ghost use Rattle.sdc_base.specs.Refutations.{refuting_terms};
 ghost use Rattle.sdc_base.specs.Refutations as spec;
 ghost use Rattle.sdc_base.specs.Systems.{NamesCells, number_at};
@@ -41,7 +41,7 @@ pub fn bound_sum(
     multipliers: &Multipliers,
     scratch: &mut [i128],
 ) -> Result<i128, RefutationFault>
-    requires ground { IsGround system.now cells.now hidden.now.flags }
+    requires ground { IsPattern system.now cells.now hidden.now.flags }
     requires scratch { length scratch.old ≡ system.now.cells }
     requires asked { cell < system.now.cells }
     ensures exact { result ≡ sum_of_bounds system.now cells.now hidden.now.flags cell side multipliers.now }
@@ -75,7 +75,7 @@ pub fn check_refutation(
     multipliers: &Multipliers,
     scratch: &mut [i128],
 ) -> Result<(), RefutationFault>
-    requires ground { IsGround system.now cells.now hidden.now.flags }
+    requires ground { IsPattern system.now cells.now hidden.now.flags }
     requires scratch { length scratch.old ≡ system.now.cells }
     requires asked { cell < system.now.cells }
     ensures exact { result ≡ refutation_fault system.now cells.now hidden.now.flags cell side multipliers.now }

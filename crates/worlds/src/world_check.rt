@@ -1,5 +1,5 @@
 ghost use Rattle.std.specs.Prelude.{◌≡◌, ◌↔◌, length, IsOk, IsTrue};
-ghost use Rattle.sdc_base.specs.Grounds.{IsGround};
+ghost use Rattle.sdc_base.specs.Patterns.{IsPattern};
 ghost use Rattle.sdc_base.specs.Worlds.{Reaches};
 ghost use Rattle.worlds.specs.NumberLists.{terms_of, number_given};
 ghost use Rattle.worlds.specs.WorldFaults.{world_fault, IsGivenWorld};
@@ -30,7 +30,7 @@ pub fn check_world(
     world: &World,
     scratch: &mut [i128],
 ) -> Result<(), WorldFault>
-    requires ground { IsGround system.now cells.now hidden.now.flags }
+    requires ground { IsPattern system.now cells.now hidden.now.flags }
     requires scratch { length scratch.old ≡ system.now.cells }
     ensures exact { result ≡ world_fault system.now cells.now hidden.now.flags world.now }
     ensures world { IsOk result ↔ IsGivenWorld system.now cells.now hidden.now.flags world.now }

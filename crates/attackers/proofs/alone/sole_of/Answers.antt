@@ -18,7 +18,7 @@ returns-then-is_at c =
     let same : Some c.in-Some.name.now ≡ Some name = sym there ∙ found in
     let own : c.in-Some.name.now ≡ name = cc in
     let freq_is = told_here c.args.book.now c.args.rows.now c.marks-marks.result.now c.args.cell name c.index-marks-cell.result c.requires.told c.marks-marks.ensures found c.requires.inside c.index-marks-cell.is in
-    (sym freq_is ∙ c.if-mark-ne1.false, ap (λ n. falls_at c.args.book.now.trees c.args.rows.now n c.in-Some-guess.guess) (sym own) ∙ sym c.is_at.ensures ∙ c.if-is_at.true)
+    (sym freq_is ∙ c.if-mark-ne1.false, ap (λ n. falls_at c.args.book.now.trees c.args.rows.now n c.in-Some-candidate.candidate) (sym own) ∙ sym c.is_at.ensures ∙ c.if-is_at.true)
 
 pub returns : goal.returns
 returns c =

@@ -15,9 +15,9 @@ ask-requires c = record {
 
 pub returns : goal.returns
 returns c =
-    let none : HasNone c.args.siege.now.system.now.relations = c.has_signs.ensures.none c.if-has_signs.false in
+    let none : HasNone c.args.task.now.system.now.relations = c.has_signs.ensures.none c.if-has_signs.false in
     record {
-      answer = kept_answers c.args.siege.now.system.now c.args.siege.now.cells.now c.args.left.now.flags c.args.asked c.level_question-question.result c.ask.result c.level_question-question.ensures none
-          (λ world is. subst (λ (own : System). IsTrueAnswer own c.args.siege.now.cells.now c.args.left.now.flags c.level_question-question.result (answer.Reaches world)) c.system.ensures (c.ask.ensures.reaches world is))
-          (λ m is. subst (λ (own : System). IsKeptStop own c.args.siege.now.cells.now c.args.left.now.flags c.level_question-question.result m) c.system.ensures (c.ask.ensures.stops (subst (λ (own : System). HasNone own.relations) (sym c.system.ensures) none) m is));
+      answer = kept_answers c.args.task.now.system.now c.args.task.now.cells.now c.args.left.now.flags c.args.asked c.level_question-question.result c.ask.result c.level_question-question.ensures none
+          (λ world is. subst (λ (own : System). IsTrueAnswer own c.args.task.now.cells.now c.args.left.now.flags c.level_question-question.result (answer.Reaches world)) c.system.ensures (c.ask.ensures.reaches world is))
+          (λ m is. subst (λ (own : System). IsKeptStop own c.args.task.now.cells.now c.args.left.now.flags c.level_question-question.result m) c.system.ensures (c.ask.ensures.stops (subst (λ (own : System). HasNone own.relations) (sym c.system.ensures) none) m is));
     }

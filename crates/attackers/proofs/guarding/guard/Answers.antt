@@ -9,15 +9,15 @@ use Rattle.attackers.specs.AttackOrder as order
 use Rattle.attackers.specs.GuardStops.{IsStopAsTold}
 use Rattle.attackers.specs.Guarding.{IsGuarded}
 use Rattle.attackers.specs.KnownCells.{IsAttack}
-use Rattle.attackers.specs.SiegeParts.{IsSiege}
+use Rattle.attackers.specs.ContributorTaskParts.{IsContributorTask}
 use Rattle.attackers.specs.Turns.{IsLeftOfTurns}
 use Rattle.attackers.proofs.AllAttacks.{unserved_are}
 use Rattle.attackers.proofs.Concluding.{cannot_where}
 use Rattle.attackers.proofs.guarding.guard.Goals as goal
 
-pub invariant_of-siege : goal.invariant_of-siege
-invariant_of-siege g c = record {
-  fits = subst (λ (own : System). IsSiege own c.args.cells.now c.args.soles.now c.deref-2.result.now c.deref-3.result.now c.args.limit) (sym c.in-Ok-of.ensures) (record {
+pub invariant_of-task : goal.invariant_of-task
+invariant_of-task g c = record {
+  fits = subst (λ (own : System). IsContributorTask own c.args.cells.now c.args.soles.now c.deref-2.result.now c.deref-3.result.now c.args.limit) (sym c.in-Ok-of.ensures) (record {
     one_each = c.requires.cells;
     priced = ap (λ (l : List ℕ). length l) (c.deref-2.ensures.value ∙ c.in-Ok.ensures) ∙ length-prices c.args.rule.now c.args.cells.now c.args.marks.now c.requires.marks ∙ c.requires.cells;
     modest = c.requires.modest;

@@ -1,12 +1,12 @@
 use Rattle.std.proofs.Common.{◌≡◌, ◌∙◌, refl, List, Bool, subst}
-use Rattle.attackers.specs.Sieges.{IsHalted}
+use Rattle.attackers.specs.ContributorTasks.{IsHalted}
 use Rattle.attackers.proofs.Halting.{stops_told}
 use Rattle.attackers.proofs.guarding.resist.Goals as goal
 
 pub returns-in-Err-clause-stopped : goal.returns-in-Err-clause-stopped
 returns-in-Err-clause-stopped c =
-    let siege = c.args.siege.now in
+    let task = c.args.task.now in
     let flags : c.new.result ≡ c.args.first.now.flags = c.new.ensures ∙ c.in-Ok.ensures.items_if_clones_equal (λ x y is. is) ∙ c.as_slice.ensures in
-    let halted : IsHalted siege c.args.first.now.flags c.guard_all-outcome.new.progress c.in-Err.halt.fault c.in-Err.halt.row =
-    subst (λ (f : List Bool). IsHalted siege f c.guard_all-outcome.new.progress c.in-Err.halt.fault c.in-Err.halt.row) flags c.in-Err.ensures.err in
-    stops_told siege c.args.first.now.flags c.guard_all-outcome.new.progress c.in-Err.halt.fault c.in-Err.halt.row c.guard_all-outcome.new.progress.extras c.empty-in-Err.result c.stop_with.result refl c.empty-in-Err.ensures c.stop_with.ensures.fault c.stop_with.ensures.row c.stop_with.ensures.extras c.stop_with.ensures.dropped halted
+    let halted : IsHalted task c.args.first.now.flags c.guard_all-outcome.new.progress c.in-Err.row_fault.fault c.in-Err.row_fault.row =
+    subst (λ (f : List Bool). IsHalted task f c.guard_all-outcome.new.progress c.in-Err.row_fault.fault c.in-Err.row_fault.row) flags c.in-Err.ensures.err in
+    stops_told task c.args.first.now.flags c.guard_all-outcome.new.progress c.in-Err.row_fault.fault c.in-Err.row_fault.row c.guard_all-outcome.new.progress.extras c.empty-in-Err.result c.stop_with.result refl c.empty-in-Err.ensures c.stop_with.ensures.fault c.stop_with.ensures.row c.stop_with.ensures.extras c.stop_with.ensures.dropped halted

@@ -5,8 +5,8 @@ use Rattle.attackers.proofs.trying.try_all.Given as goal
 
 abbrev pub invariant-cells : goal.invariant-cells
 invariant-cells l = record {
-  each : length l.progress.hidden.flags ≡ l.siege.system.now.cells;
-  permitted : IsPermitted l.siege.cells.now l.progress.hidden.flags;
+  each : length l.progress.hidden.flags ≡ l.task.system.now.cells;
+  permitted : IsPermitted l.task.cells.now l.progress.hidden.flags;
   extras : l.progress.extras ≡ l.fn.progress.extras;
-  tried : HasTried l.siege l.first.flags l.fn.progress.hidden.flags l.number l.progress l.found;
+  tried : HasTried l.task l.first.flags l.fn.progress.hidden.flags l.number l.progress l.found;
 }

@@ -7,82 +7,82 @@ use Rattle.repair.specs.HidingOrder.{hide, show}
 use Rattle.repair.proofs.Tries.{hidden_again, on_ok_two}
 use Rattle.certificate.specs.declared.extra.ExtraNeed.{ExtraNeed}
 use Rattle.attackers.specs.declared.trial.Trial.TheVariants as trial
-use Rattle.attackers.specs.Sieges.{case_of, HoldGuards, IsReadySet}
+use Rattle.attackers.specs.ContributorTasks.{case_of, HoldGuards, IsReadySet}
 use Rattle.attackers.specs.Dropping.{renewed_guards, IsTrial, IsTried, IsTryStop, IsNeedFor, HasFault}
 use Rattle.attackers.proofs.Tries.{one_dropped, one_needed, try_stop, tries_stop, permitted_less}
 use Rattle.attackers.proofs.trying.try_one.Goals as goal
 
 pub invariant_of-attempt : goal.invariant_of-attempt
 invariant_of-attempt c =
-    let siege = c.args.siege.now in
+    let task = c.args.task.now in
     let flags : List Bool = c.args.progress.now.hidden.flags in
     record {
-      set = subst (λ (f : List Bool). IsReadySet siege f) (sym c.set.ensures) (record {
+      set = subst (λ (f : List Bool). IsReadySet task f) (sym c.set.ensures) (record {
         each = length-set flags c.args.cell false ∙ c.requires.each;
-        permitted = permitted_less siege.cells.now c.args.first.now.flags flags c.args.cell c.requires.extra c.requires.first c.requires.permitted;
+        permitted = permitted_less task.cells.now c.args.first.now.flags flags c.args.cell c.requires.extra c.requires.first c.requires.permitted;
       });
     }
 
 pub returns-in_err-trial-clause-err : goal.returns-in_err-trial-clause-err
 returns-in_err-trial-clause-err c =
-    let siege = c.args.siege.now in
+    let task = c.args.task.now in
     let first : List Bool = c.args.first.now.flags in
     let flags : List Bool = c.args.progress.now.hidden.flags in
-    let inside : c.args.cell < length flags = omega (arith, c.requires.each, siege.fits.one_each, c.requires.inside) in
-    let has : HasFault (case_of siege) siege.soles.now siege.attacks.now (show flags c.args.cell) siege.limit c.in_err-trial.field-0.0.fault c.in_err-trial.field-0.0.row =
-    subst (λ (f : List Bool). HasFault (case_of siege) siege.soles.now siege.attacks.now f siege.limit c.in_err-trial.field-0.0.fault c.in_err-trial.field-0.0.row) c.set.ensures c.in_err-trial.ensures.err in
+    let inside : c.args.cell < length flags = omega (arith, c.requires.each, task.fits.one_each, c.requires.inside) in
+    let has : HasFault (case_of task) task.soles.now task.attacks.now (show flags c.args.cell) task.limit c.in_err-trial.field-0.0.fault c.in_err-trial.field-0.0.row =
+    subst (λ (f : List Bool). HasFault (case_of task) task.soles.now task.attacks.now f task.limit c.in_err-trial.field-0.0.fault c.in_err-trial.field-0.0.row) c.set.ensures c.in_err-trial.ensures.err in
     let p = err_from_is_err_and c.from_residual.result c.from_residual.ensures.1 in
     rw (p.1, p.2) (λ larger before.
-    tries_stop siege first larger c.in_err-trial.field-0.0.fault c.in_err-trial.field-0.0.row c.push.new.self
-    (subst (λ (l : List ℕ). IsTryStop (case_of siege) siege.soles.now siege.attacks.now first larger siege.limit c.in_err-trial.field-0.0.fault c.in_err-trial.field-0.0.row l) (sym c.in-Ok.ensures.ok)
-    (try_stop (case_of siege) siege.soles.now siege.attacks.now first larger c.args.cell flags c.args.progress.now.guards c.args.found.now.needs c.args.found.now.dropped siege.limit c.in_err-trial.field-0.0.fault c.in_err-trial.field-0.0.row siege.fits.one_each siege.fits.are_attacks inside c.requires.extra has before)))
+    tries_stop task first larger c.in_err-trial.field-0.0.fault c.in_err-trial.field-0.0.row c.push.new.self
+    (subst (λ (l : List ℕ). IsTryStop (case_of task) task.soles.now task.attacks.now first larger task.limit c.in_err-trial.field-0.0.fault c.in_err-trial.field-0.0.row l) (sym c.in-Ok.ensures.ok)
+    (try_stop (case_of task) task.soles.now task.attacks.now first larger c.args.cell flags c.args.progress.now.guards c.args.found.now.needs c.args.found.now.dropped task.limit c.in_err-trial.field-0.0.fault c.in_err-trial.field-0.0.row task.fits.one_each task.fits.are_attacks inside c.requires.extra has before)))
 
 pub returns-in-Renewed-clause-permitted : goal.returns-in-Renewed-clause-permitted
 returns-in-Renewed-clause-permitted c =
-    let siege = c.args.siege.now in
+    let task = c.args.task.now in
     let flags : List Bool = c.args.progress.now.hidden.flags in
-    let less : IsPermitted siege.cells.now (show flags c.args.cell) = permitted_less siege.cells.now c.args.first.now.flags flags c.args.cell c.requires.extra c.requires.first c.requires.permitted in
-    on_ok (IsPermitted siege.cells.now c.take_new.new.progress.hidden.flags) c.take_new.result (subst (IsPermitted siege.cells.now) (sym (c.take_new.ensures.flags ∙ c.set.ensures)) less)
+    let less : IsPermitted task.cells.now (show flags c.args.cell) = permitted_less task.cells.now c.args.first.now.flags flags c.args.cell c.requires.extra c.requires.first c.requires.permitted in
+    on_ok (IsPermitted task.cells.now c.take_new.new.progress.hidden.flags) c.take_new.result (subst (IsPermitted task.cells.now) (sym (c.take_new.ensures.flags ∙ c.set.ensures)) less)
 
 pub returns-in-Renewed-clause-ok : goal.returns-in-Renewed-clause-ok
 returns-in-Renewed-clause-ok c =
-    let siege = c.args.siege.now in
+    let task = c.args.task.now in
     let first : List Bool = c.args.first.now.flags in
     let flags : List Bool = c.args.progress.now.hidden.flags in
-    let inside : c.args.cell < length flags = omega (arith, c.requires.each, siege.fits.one_each, c.requires.inside) in
-    let told : IsTrial siege c.set.new.self c.args.cell c.as_slice.result.now (trial.Renewed c.in-Renewed.news) = subst (IsTrial siege c.set.new.self c.args.cell c.as_slice.result.now) c.in-Renewed.is c.in_ok-trial.ensures.ok in
+    let inside : c.args.cell < length flags = omega (arith, c.requires.each, task.fits.one_each, c.requires.inside) in
+    let told : IsTrial task c.set.new.self c.args.cell c.as_slice.result.now (trial.Renewed c.in-Renewed.news) = subst (IsTrial task c.set.new.self c.args.cell c.as_slice.result.now) c.in-Renewed.is c.in_ok-trial.ensures.ok in
     ok_more c.take_new.result (λ guards larger before.
-    let held : HoldGuards (case_of siege) siege.soles.now (show flags c.args.cell) siege.attacks.now c.take_new.new.progress.guards =
-    subst (λ (g : List WorldLine). HoldGuards (case_of siege) siege.soles.now (show flags c.args.cell) siege.attacks.now g) (sym guards)
-    (subst (λ (f : List Bool). HoldGuards (case_of siege) siege.soles.now f siege.attacks.now (renewed_guards c.args.cell c.args.progress.now.guards c.in-Renewed.news)) c.set.ensures
-    (subst (λ (g : List WorldLine). HoldGuards (case_of siege) siege.soles.now c.set.new.self siege.attacks.now (renewed_guards c.args.cell g c.in-Renewed.news)) c.as_slice.ensures told)) in
-    subst (λ (f : List Bool). IsTried (case_of siege) siege.soles.now siege.attacks.now first larger (c.args.cell + 1) f c.take_new.new.progress.guards c.args.found.now.needs c.push.new.self) (sym (c.take_new.ensures.flags ∙ c.set.ensures))
-    (subst (λ (l : List ℕ). IsTried (case_of siege) siege.soles.now siege.attacks.now first larger (c.args.cell + 1) (show flags c.args.cell) c.take_new.new.progress.guards c.args.found.now.needs l) (sym c.in-Ok.ensures.ok)
-    (one_dropped (case_of siege) siege.soles.now siege.attacks.now first larger c.args.cell flags c.args.progress.now.guards c.take_new.new.progress.guards c.args.found.now.needs c.args.found.now.dropped inside c.requires.extra held before))) c.take_new.ensures.guards
+    let held : HoldGuards (case_of task) task.soles.now (show flags c.args.cell) task.attacks.now c.take_new.new.progress.guards =
+    subst (λ (g : List WorldLine). HoldGuards (case_of task) task.soles.now (show flags c.args.cell) task.attacks.now g) (sym guards)
+    (subst (λ (f : List Bool). HoldGuards (case_of task) task.soles.now f task.attacks.now (renewed_guards c.args.cell c.args.progress.now.guards c.in-Renewed.news)) c.set.ensures
+    (subst (λ (g : List WorldLine). HoldGuards (case_of task) task.soles.now c.set.new.self task.attacks.now (renewed_guards c.args.cell g c.in-Renewed.news)) c.as_slice.ensures told)) in
+    subst (λ (f : List Bool). IsTried (case_of task) task.soles.now task.attacks.now first larger (c.args.cell + 1) f c.take_new.new.progress.guards c.args.found.now.needs c.push.new.self) (sym (c.take_new.ensures.flags ∙ c.set.ensures))
+    (subst (λ (l : List ℕ). IsTried (case_of task) task.soles.now task.attacks.now first larger (c.args.cell + 1) (show flags c.args.cell) c.take_new.new.progress.guards c.args.found.now.needs l) (sym c.in-Ok.ensures.ok)
+    (one_dropped (case_of task) task.soles.now task.attacks.now first larger c.args.cell flags c.args.progress.now.guards c.take_new.new.progress.guards c.args.found.now.needs c.args.found.now.dropped inside c.requires.extra held before))) c.take_new.ensures.guards
 
 pub returns-in-Refused-clause-permitted : goal.returns-in-Refused-clause-permitted
 returns-in-Refused-clause-permitted c =
-    let siege = c.args.siege.now in
+    let task = c.args.task.now in
     let flags : List Bool = c.args.progress.now.hidden.flags in
-    let inside : c.args.cell < length flags = omega (arith, c.requires.each, siege.fits.one_each, c.requires.inside) in
+    let inside : c.args.cell < length flags = omega (arith, c.requires.each, task.fits.one_each, c.requires.inside) in
     let hidden : is_hidden flags c.args.cell ≡ true = (and_true (is_hidden flags c.args.cell) (not (is_hidden c.args.first.now.flags c.args.cell)) c.requires.extra).0 in
     let same : c.put_back.new.progress.hidden.flags ≡ flags = c.put_back.ensures.flags ∙ ap (λ (f : List Bool). hide f c.args.cell) c.set.ensures ∙ hidden_again flags c.args.cell inside hidden in
-    on_ok (IsPermitted siege.cells.now c.put_back.new.progress.hidden.flags) c.put_back.result (subst (IsPermitted siege.cells.now) (sym same) c.requires.permitted)
+    on_ok (IsPermitted task.cells.now c.put_back.new.progress.hidden.flags) c.put_back.result (subst (IsPermitted task.cells.now) (sym same) c.requires.permitted)
 
 pub returns-in-Refused-clause-ok : goal.returns-in-Refused-clause-ok
 returns-in-Refused-clause-ok c =
-    let siege = c.args.siege.now in
+    let task = c.args.task.now in
     let first : List Bool = c.args.first.now.flags in
     let flags : List Bool = c.args.progress.now.hidden.flags in
-    let inside : c.args.cell < length flags = omega (arith, c.requires.each, siege.fits.one_each, c.requires.inside) in
+    let inside : c.args.cell < length flags = omega (arith, c.requires.each, task.fits.one_each, c.requires.inside) in
     let hidden : is_hidden flags c.args.cell ≡ true = (and_true (is_hidden flags c.args.cell) (not (is_hidden first c.args.cell)) c.requires.extra).0 in
     let same : c.put_back.new.progress.hidden.flags ≡ flags = c.put_back.ensures.flags ∙ ap (λ (f : List Bool). hide f c.args.cell) c.set.ensures ∙ hidden_again flags c.args.cell inside hidden in
-    let told : IsTrial siege c.set.new.self c.args.cell c.as_slice.result.now (trial.Refused c.in-Refused.need) = subst (IsTrial siege c.set.new.self c.args.cell c.as_slice.result.now) c.in-Refused.is c.in_ok-trial.ensures.ok in
-    let refuted : IsNeedFor (case_of siege) siege.soles.now siege.attacks.now (show flags c.args.cell) c.in-Refused.need = subst (λ (f : List Bool). IsNeedFor (case_of siege) siege.soles.now siege.attacks.now f c.in-Refused.need) c.set.ensures told.1 in
+    let told : IsTrial task c.set.new.self c.args.cell c.as_slice.result.now (trial.Refused c.in-Refused.need) = subst (IsTrial task c.set.new.self c.args.cell c.as_slice.result.now) c.in-Refused.is c.in_ok-trial.ensures.ok in
+    let refuted : IsNeedFor (case_of task) task.soles.now task.attacks.now (show flags c.args.cell) c.in-Refused.need = subst (λ (f : List Bool). IsNeedFor (case_of task) task.soles.now task.attacks.now f c.in-Refused.need) c.set.ensures told.1 in
     on_ok_two c.put_back.result c.put_back.ensures.needs c.put_back.ensures.dropped (λ needs dropped larger before.
     let back : c.put_back.new.found.dropped ≡ c.args.found.now.dropped = dropped c.args.found.now.dropped c.args.cell c.in-Ok.ensures.ok in
-    subst (λ (f : List Bool). IsTried (case_of siege) siege.soles.now siege.attacks.now first larger (c.args.cell + 1) f c.put_back.new.progress.guards c.put_back.new.found.needs c.put_back.new.found.dropped) (sym same)
-    (subst (λ (g : List WorldLine). IsTried (case_of siege) siege.soles.now siege.attacks.now first larger (c.args.cell + 1) flags g c.put_back.new.found.needs c.put_back.new.found.dropped) (sym c.put_back.ensures.guards)
-    (subst (λ (rs : List ExtraNeed). IsTried (case_of siege) siege.soles.now siege.attacks.now first larger (c.args.cell + 1) flags c.args.progress.now.guards rs c.put_back.new.found.dropped) (sym needs)
-    (subst (λ (l : List ℕ). IsTried (case_of siege) siege.soles.now siege.attacks.now first larger (c.args.cell + 1) flags c.args.progress.now.guards (c.args.found.now.needs ++ c.in-Refused.need ∷ []) l) (sym back)
-    (one_needed (case_of siege) siege.soles.now siege.attacks.now first larger c.args.cell flags c.args.progress.now.guards c.args.found.now.needs c.args.found.now.dropped c.in-Refused.need inside c.requires.extra told.0 refuted before)))))
+    subst (λ (f : List Bool). IsTried (case_of task) task.soles.now task.attacks.now first larger (c.args.cell + 1) f c.put_back.new.progress.guards c.put_back.new.found.needs c.put_back.new.found.dropped) (sym same)
+    (subst (λ (g : List WorldLine). IsTried (case_of task) task.soles.now task.attacks.now first larger (c.args.cell + 1) flags g c.put_back.new.found.needs c.put_back.new.found.dropped) (sym c.put_back.ensures.guards)
+    (subst (λ (rs : List ExtraNeed). IsTried (case_of task) task.soles.now task.attacks.now first larger (c.args.cell + 1) flags c.args.progress.now.guards rs c.put_back.new.found.dropped) (sym needs)
+    (subst (λ (l : List ℕ). IsTried (case_of task) task.soles.now task.attacks.now first larger (c.args.cell + 1) flags c.args.progress.now.guards (c.args.found.now.needs ++ c.in-Refused.need ∷ []) l) (sym back)
+    (one_needed (case_of task) task.soles.now task.attacks.now first larger c.args.cell flags c.args.progress.now.guards c.args.found.now.needs c.args.found.now.dropped c.in-Refused.need inside c.requires.extra told.0 refuted before)))))

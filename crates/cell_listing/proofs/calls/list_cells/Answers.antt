@@ -2,8 +2,8 @@ use Rattle.std.proofs.Common.{◌≡◌, ℕ, List, Err, IsOkAnd, sym, subst}
 use Rattle.std.proofs.lemmas.Result.{err_from_is_err_and}
 use Rattle.job_inputs.proofs.Causes.{come-on}
 use Rattle.job_inputs.specs.Looks.{InputsComeTo}
-use Rattle.job_inputs.specs.Reading.{HasComeTo}
-use Rattle.job_inputs.specs.SettledJobs.{settled_of}
+use Rattle.job_inputs.specs.Reading.{ReachedFile}
+use Rattle.job_inputs.specs.ClassifiedJobs.{settled_of}
 use Rattle.job_inputs.specs.declared.purpose.Purpose.TheVariants as purpose
 use Rattle.job_inputs.specs.declared.stop.InputStop.{InputStop}
 use Rattle.cell_listing.specs.Listings.{IsCellListing}
@@ -18,7 +18,7 @@ returns-in_err-bytes-clause-came_to g c =
     let given = c.in-Some.ensures in
     let same : e ≡ why = cc in
     let name : c.in-Some.name.now ≡ x = cc in
-    subst (λ (stop : InputStop). HasComeTo {X = Unit {0}} (InputsComeTo purpose.Release fs x) (Err stop) fs new) (sym same)
+    subst (λ (stop : InputStop). ReachedFile {X = Unit {0}} (InputsComeTo purpose.Release fs x) (Err stop) fs new) (sym same)
     (come-on why (InputsComeTo purpose.Release fs c.in-Some.name.now) (InputsComeTo purpose.Release fs x) fs new (λ f held comes. subst (λ (n : List ℕ). InputsComeTo purpose.Release fs n f held) name comes) (c.in_err-bytes.ensures.looked.came_to fs told))
 
 pub returns-clause-told : goal.returns-clause-told

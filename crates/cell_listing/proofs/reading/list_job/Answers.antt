@@ -1,6 +1,6 @@
 use Rattle.std.proofs.lemmas.Result.{err_from_is_err_and}
 use Rattle.job_inputs.proofs.Causes.{cause-as, come-on}
-use Rattle.job_inputs.specs.SettledJobs.{settled_of}
+use Rattle.job_inputs.specs.ClassifiedJobs.{settled_of}
 use Rattle.job_inputs.specs.declared.purpose.Purpose.TheVariants as purpose
 use Rattle.cell_listing.proofs.ListingReads.{listing-is}
 use Rattle.cell_listing.proofs.reading.list_job.Goals as goal

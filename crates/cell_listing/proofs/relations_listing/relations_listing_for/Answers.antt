@@ -4,7 +4,7 @@ use Rattle.std.specs.declared.alloc.Global.{Global}
 use Rattle.std.proofs.lemmas.Result.{IfOk-weaker}
 use Rattle.sdc_base.specs.TableText.{line_text}
 use Rattle.release_writer.specs.Lines.{bytes_written}
-use Rattle.job_inputs.specs.SettledJobs.{IsSettledOf, SettledInputs}
+use Rattle.job_inputs.specs.ClassifiedJobs.{IsSettledOf, SettledInputs}
 use Rattle.cell_listing.specs.Columns.{variable_names}
 use Rattle.cell_listing.specs.RelationListings.{relation_line, relation_names, relation_text, IsRelationListing, IsRelationText}
 use Rattle.cell_listing.proofs.ListingReads.{relations_alike}

@@ -1,6 +1,6 @@
 use Rattle.std.proofs.lemmas.Result.{err_from_is_err_and}
 use Rattle.job_inputs.proofs.Causes.{cause-as, come-on}
-use Rattle.job_inputs.specs.SettledJobs.{settled_of}
+use Rattle.job_inputs.specs.ClassifiedJobs.{settled_of}
 use Rattle.job_inputs.specs.declared.purpose.Purpose.TheVariants as purpose
 use Rattle.cell_listing.proofs.ListingReads.{relations_are}
 use Rattle.cell_listing.proofs.relations_reading.list_relations.Goals as goal

@@ -17,7 +17,7 @@ use Rattle.rounding_audit.specs.AuditTexts.{audit_text}
 use Rattle.rounding_audit.specs.Audits.{IsAudit}
 use Rattle.rounding_audit.specs.Exposures.{exposed_in, is_exposed}
 use Rattle.rounding_audit.specs.declared.audited.AuditedCell.{AuditedCell}
-use Rattle.shelved_tables.proofs.Readying.{truths_within}
+use Rattle.published_tables.proofs.Readying.{truths_within}
 use Rattle.job_audit.specs.ShownValues.{base_of_job}
 use Rattle.job_audit.proofs.Counting.{few_audited}
 use Rattle.job_audit.proofs.Stopping.{audit_stops}

@@ -2,9 +2,9 @@ use Rattle.std.proofs.Common.{List, Ok, refl, subst, ℤ}
 use Rattle.std.proofs.lemmas.Result.{err_from_is_err_and}
 use Rattle.job_inputs.proofs.Causes.{cause-as, come-on}
 use Rattle.job_audit.proofs.Answering.{refused_for, values_come, values_found}
-use Rattle.shelved_tables.proofs.Coming.{ok_and}
+use Rattle.published_tables.proofs.Coming.{ok_and}
 use Rattle.job_audit.proofs.Stopping.{table_stops, table_found, table_cause, table_comes_to, values_cause, values_come_to}
-use Rattle.shelved_tables.specs.TablesOnShelf.{shelved_for, ComesFor, IsShelvedOf}
+use Rattle.published_tables.specs.TablesOnShelf.{shelved_for, ComesFor, IsShelvedOf}
 use Rattle.job_audit.specs.Finding.{ComesFromValues}
 use Rattle.job_audit.specs.ShownValues.{values_read}
 use Rattle.job_inputs.specs.declared.purpose.Purpose.TheVariants.{Audit}

@@ -1,5 +1,5 @@
 use Rattle.std.proofs.Common.{List, ℕ, length, ap, sym, ◌∙◌}
-use Rattle.shelved_tables.proofs.Readying.{from_zero, have_names, each_table}
+use Rattle.published_tables.proofs.Readying.{from_zero, have_names, each_table}
 use Rattle.job_audit.proofs.showing.values_in.Goals as goal
 
 pub rounded_of-requires-clause-names : goal.rounded_of-requires-clause-names

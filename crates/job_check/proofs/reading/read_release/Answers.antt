@@ -3,7 +3,7 @@ use Rattle.std.proofs.lemmas.Result.{err_from_is_err_and}
 use Rattle.job_inputs.proofs.Causes.{come-on, cause-as, cause-on, inputs-looked, look-on, longer-look, past-inputs}
 use Rattle.job_inputs.specs.ReadFiles.{limit, output_limit}
 use Rattle.job_inputs.specs.Reading.{stopped_for}
-use Rattle.job_inputs.specs.SettledJobs.{IsSettledOf}
+use Rattle.job_inputs.specs.ClassifiedJobs.{IsSettledOf}
 use Rattle.job_inputs.specs.declared.purpose.Purpose.TheVariants.{Release}
 use Rattle.job_check.proofs.ReleaseReading.{settled-fails, no-certificate, no-extra, no-tables, all-read, inputs-come, certificate-comes, contributors-come, tables-come}
 use Rattle.job_check.specs.ReleaseFiles.{released_with}

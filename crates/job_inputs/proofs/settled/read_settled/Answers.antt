@@ -9,7 +9,7 @@ use Rattle.job_inputs.proofs.Coming.{statements-come}
 use Rattle.job_inputs.proofs.Settling.{inputs-fail, book-fails, priors-fail, cells-fail, outputs-fail, settled-is}
 use Rattle.job_inputs.specs.Cells.{figures, prior_fault}
 use Rattle.plain_text.specs.Stops.{why_of}
-use Rattle.job_inputs.specs.SettledJobs.{SettledInputs, overwrites_job}
+use Rattle.job_inputs.specs.ClassifiedJobs.{SettledInputs, overwrites_job}
 use Rattle.job_inputs.specs.declared.described.DescribedJob.{DescribedJob}
 use Rattle.job_inputs.specs.declared.faults.Fault.TheVariants as fault
 use Rattle.job_inputs.proofs.settled.read_settled.Goals as goal

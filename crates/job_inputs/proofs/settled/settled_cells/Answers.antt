@@ -1,6 +1,6 @@
 use Rattle.std.proofs.Common.{◌≡◌, Ok, map, refl, subst}
 use Rattle.sdc_base.specs.Answers.{Fails}
-use Rattle.apriori.specs.Faults.{fault_of}
+use Rattle.apriori.specs.Faults.{prior_fault_of}
 use Rattle.apriori.specs.Settling.{view_of_cell, settle_of}
 use Rattle.job_inputs.proofs.Refusing.{prior_refuses}
 use Rattle.job_inputs.proofs.Truths.{truths-are}
@@ -22,7 +22,7 @@ pub returns-in-Err-clause-gives : goal.returns-in-Err-clause-gives
 returns-in-Err-clause-gives c = λ inputs is.
     let e = c.in-Err.error in
     let over = c.in-Err.ensures.over_records inputs.records.trees (cells inputs) inputs.records.rows inputs.described.bound.scale (facts-in inputs c.args.counted.now.book is.book) in
-    let same = subst (λ (d : DescribedJob). Fails (fault_of e) (settle_of d.job.rules (figures inputs) c.args.priors.now)) is.described over in
+    let same = subst (λ (d : DescribedJob). Fails (prior_fault_of e) (settle_of d.job.rules (figures inputs) c.args.priors.now)) is.described over in
     rw (c.prior_refusal.ensures) (prior_refuses e (settle_of inputs.described.job.rules (figures inputs) c.args.priors.now) same)
 
 pub returns-in-Ok-clause-ready : goal.returns-in-Ok-clause-ready

@@ -8,7 +8,7 @@ use Rattle.cell_intervals.specs.declared.interval.CellInterval.{CellInterval}
 use Rattle.relations.proofs.SignedTables.{one_or_two_way_has_signs}
 use Rattle.relations.specs.Holding.{IsSystemOf}
 use Rattle.job_intervals.proofs.Counting.{few_intervals}
-use Rattle.shelved_tables.proofs.Readying.{truths_within}
+use Rattle.published_tables.proofs.Readying.{truths_within}
 use Rattle.job_intervals.proofs.Stopping.{question_stops}
 use Rattle.job_intervals.proofs.finding.file_for.Goals as goal
 

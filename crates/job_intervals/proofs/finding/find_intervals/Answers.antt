@@ -2,9 +2,9 @@ use Rattle.std.proofs.Common.{Ok, refl}
 use Rattle.std.proofs.lemmas.Result.{err_from_is_err_and}
 use Rattle.job_inputs.proofs.Causes.{cause-as, come-on}
 use Rattle.job_intervals.proofs.Answering.{refused_for, set_comes, set_found}
-use Rattle.shelved_tables.proofs.Coming.{ok_and}
+use Rattle.published_tables.proofs.Coming.{ok_and}
 use Rattle.job_intervals.proofs.Stopping.{table_stops, table_found, table_cause, table_comes_to, set_cause, set_comes_to}
-use Rattle.shelved_tables.specs.TablesOnShelf.{shelved_of, IntervalsComeTo, IsShelvedOf}
+use Rattle.published_tables.specs.TablesOnShelf.{shelved_of, IntervalsComeTo, IsShelvedOf}
 use Rattle.job_intervals.specs.ShownTables.{flags_in}
 use Rattle.job_intervals.proofs.finding.find_intervals.Goals as goal
 

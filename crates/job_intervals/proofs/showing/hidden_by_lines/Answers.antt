@@ -1,5 +1,5 @@
 use Rattle.std.proofs.Common.{List, ℕ, length, ap, sym, ◌∙◌}
-use Rattle.shelved_tables.proofs.Readying.{have_names, each_table}
+use Rattle.published_tables.proofs.Readying.{have_names, each_table}
 use Rattle.job_intervals.proofs.showing.hidden_by_lines.Goals as goal
 
 pub hidden_of-requires-clause-names : goal.hidden_of-requires-clause-names

@@ -3,7 +3,7 @@ use Rattle.std.specs.Result.{IfOk}
 use Rattle.sdc_base.specs.Answers.{Gives}
 use Rattle.job_lang.specs.declared.job.Job.{Job}
 use Rattle.job_lang.specs.declared.faults.JobError.{JobError}
-use Rattle.job_lang.specs.Faults.{fault_of}
+use Rattle.job_lang.specs.Faults.{job_fault_of}
 use Rattle.job_lang.specs.Jobs.{job_of}
 use Rattle.job_lang.specs.JobLimits.{IsJob}
 use Rattle.job_lang.proofs.JobHolds.{job_known}
@@ -16,7 +16,7 @@ use Rattle.job_lang.proofs.reading.read_job.Goals as goal
 pub closed_job-requires : goal.closed_job-requires
 closed_job-requires c = (known IsDraft (lines_say 0 empty_draft (lines c.args.bytes.now)) _ (lines_known (lines c.args.bytes.now)) c.in_ok-draft.ensures).few
 
-within : (result : Result Job JobError) (bytes : List ℕ) → Gives fault_of (λ job. job) result (job_of bytes) → IfOk result IsJob
+within : (result : Result Job JobError) (bytes : List ℕ) → Gives job_fault_of (λ job. job) result (job_of bytes) → IfOk result IsJob
 within (Ok job) bytes h = known IsJob (job_of bytes) job (job_known bytes) h
 within (Err e) bytes h = tt
 

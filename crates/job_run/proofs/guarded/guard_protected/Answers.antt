@@ -8,7 +8,7 @@ use Rattle.job_run.specs.Books.{job_of}
 use Rattle.job_run.specs.GuardedReleases.{count_hidden}
 use Rattle.job_run.proofs.SameBook.{as-many-marks, same-cells, still-book, still-ready, still-told}
 use Rattle.job_run.proofs.Releasing.{each-flag, with-hidden}
-use Rattle.job_run.proofs.GuardedJobs.{certificate-kept, each-guarded, guard-for, guarded-comes, guarded-is, file-named, named-files, unguarded-comes}
+use Rattle.job_run.proofs.GuardedJobs.{certificate-kept, each-guarded, guard-for, guarded-comes, guarded-is, file-named, named-files, guard-failure-comes}
 use Rattle.job_run.proofs.guarded.guard_protected.Goals as goal
 
 -- ---- what guarding wants
@@ -96,4 +96,4 @@ returns-in_err-guarded-clause-comes c = λ settled is numbers.
     let why = c.in_err-guarded.field-0.0 in
     let guards = guard-for settled job c.args.protected.now.system.now c.args.protected.now.book.now c.args.protected.now.cells.now c.args.protected.now.rows.now c.args.name (protection.Protected c.args.protected.now.hidden_set.now c.args.certificate) c.args.protected.now.hidden_set.now c.args.certificate (Err why)
     is.hides c.requires.named is.is_of is.is_book is.is_system refl refl refl is.same is.protects c.in_err-guarded.ensures.outcome c.in_err-guarded.ensures.whole in
-    rw (p.1, p.2) (unguarded-comes settled c.args.protected.now.hidden_set.now c.args.certificate why guards)
+    rw (p.1, p.2) (guard-failure-comes settled c.args.protected.now.hidden_set.now c.args.certificate why guards)

@@ -1,8 +1,8 @@
 use Rattle.std.proofs.Common.{◌≡◌, All, List, arith, length, refl, ap, sym, subst, ◌∙◌}
 use Rattle.sdc_base.specs.declared.cell.Cell.{Cell}
 use Rattle.apriori.specs.CellLevels.{HasLevelsInRange}
-use Rattle.job_inputs.specs.SettledJobs.{IsSettledOf}
-use Rattle.job_inputs.specs.declared.settled.SettledJob.{SettledJob}
+use Rattle.job_inputs.specs.ClassifiedJobs.{IsSettledOf}
+use Rattle.job_inputs.specs.declared.settled.ClassifiedJob.{ClassifiedJob}
 use Rattle.job_run.proofs.release.suppressed_release.Goals as goal
 
 pub suppress_parts-requires-clause-settled : goal.suppress_parts-requires-clause-settled

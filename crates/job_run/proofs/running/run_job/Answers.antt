@@ -1,6 +1,6 @@
 use Rattle.std.proofs.Common.{◌≡◌, ◌<◌, arith, IsErrOf, Err, List, length, refl, subst, sym}
 use Rattle.std.proofs.lemmas.Result.{err_from_is_err_and}
-use Rattle.job_inputs.specs.SettledJobs.{IsSettledOf, settled_of}
+use Rattle.job_inputs.specs.ClassifiedJobs.{IsSettledOf, settled_of}
 use Rattle.job_inputs.specs.declared.purpose.Purpose.TheVariants as purpose
 use Rattle.job_inputs.specs.declared.file_ref.FileRef.{FileRef}
 use Rattle.job_run.specs.FileCounts.{file_count}

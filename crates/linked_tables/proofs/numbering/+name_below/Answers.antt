@@ -2,7 +2,7 @@ use Rattle.std.proofs.Common.{◌≡◌, ◌≤◌, ◌+◌, ◌-◌, ◌++◌, 
 use Rattle.std.proofs.lemmas.Result.{err_from_is_err_and}
 use Rattle.sdc_base.specs.Records.{Name}
 use Rattle.sdc_base.specs.Cells.{with_name}
-use Rattle.linked_tables.specs.Tables.{most_cells, fault_of}
+use Rattle.linked_tables.specs.Tables.{most_cells, book_fault_of}
 use Rattle.linked_tables.specs.BookKeeping.{names_within_limit, names_below}
 use Rattle.linked_tables.proofs.Below.{names_begun, below-begun, begun-next, begun-rises}
 use Rattle.linked_tables.proofs.Faults.{capped-Ok, capped-few, fails-more}
@@ -35,7 +35,7 @@ returns-in_err-name_below-clause-fault t c =
     subst (λ (one : List Name). length one ≤ length (fold with_name names (names_below trees table place))) (sym some)
     (subst (λ (one : List Name). length (fold with_name names (names_begun trees table place (code + 1))) ≤ length one) (sym all) rise)
     in
-    rw (p.1, p.2) (fails-more (fault_of c.in_err-name_below.field-0.0) c.args.t (fold with_name c.codes.names (names_below trees table longer)) (fold with_name names (names_below trees table place)) fits c.in_err-name_below.ensures.fault)
+    rw (p.1, p.2) (fails-more (book_fault_of c.in_err-name_below.field-0.0) c.args.t (fold with_name c.codes.names (names_below trees table longer)) (fold with_name names (names_below trees table place)) fits c.in_err-name_below.ensures.fault)
 
 pub codes-preserved : goal.codes-preserved
 codes-preserved t c =

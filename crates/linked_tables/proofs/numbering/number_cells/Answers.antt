@@ -5,7 +5,7 @@ use Rattle.std.proofs.lemmas.Result.{err_from_is_err_and}
 use Rattle.sdc_base.specs.Records.{Name}
 use Rattle.sdc_base.specs.Answers.{Fails}
 use Rattle.sdc_base.specs.Cells.{cells_of, named_by, with_name}
-use Rattle.linked_tables.specs.Tables.{most_cells, fault_of, variables_fault}
+use Rattle.linked_tables.specs.Tables.{most_cells, book_fault_of, variables_fault}
 use Rattle.linked_tables.specs.BookCells.{IsTable}
 use Rattle.linked_tables.specs.BookKeeping.{names_within_limit, starts_of}
 use Rattle.linked_tables.proofs.CellLists.{starts-more}
@@ -23,8 +23,8 @@ returns-in_err-name_below-clause-fault c =
     let none : variables_fault (length trees) t table ≡ None = ap (variables_fault (length trees) t) (sym c.as_slice.ensures) ∙ c.in_ok-check_variables.ensures.none in
     let p = err_from_is_err_and c.from_residual-in_err-name_below.result c.from_residual-in_err-name_below.ensures.1 in
     rw (p.1, p.2)
-    (cells-stop trees tables t table (fault_of c.in_err-name_below.field-0.0) at c.tables.invariant.rest none
-    (subst (λ (names : List Name). Fails (fault_of c.in_err-name_below.field-0.0) (names_within_limit t (fold with_name names (named_by trees table)))) c.tables.invariant.named c.in_err-name_below.ensures.fault))
+    (cells-stop trees tables t table (book_fault_of c.in_err-name_below.field-0.0) at c.tables.invariant.rest none
+    (subst (λ (names : List Name). Fails (book_fault_of c.in_err-name_below.field-0.0) (names_within_limit t (fold with_name names (named_by trees table)))) c.tables.invariant.named c.in_err-name_below.ensures.fault))
 
 pub tables-preserved : goal.tables-preserved
 tables-preserved c =

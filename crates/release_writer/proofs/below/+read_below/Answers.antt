@@ -4,7 +4,7 @@ use Rattle.sdc_base.specs.Answers.{Fails, Gives}
 use Rattle.sdc_base.specs.Cells.{trees_of}
 use Rattle.sdc_base.specs.CellOrder.{is_place_in}
 use Rattle.release_writer.specs.ReleaseReading.{read_place, read_places}
-use Rattle.release_writer.specs.Sheets.{form_of, reading_of, fault_of, places_below}
+use Rattle.release_writer.specs.Sheets.{form_of, reading_of, release_fault_of, places_below}
 use Rattle.release_writer.proofs.BegunPlaces.{place-more}
 use Rattle.release_writer.proofs.ReadSteps.{below-whole, below-from, from-end, code-read, code-bad, step-end, places_from}
 use Rattle.release_writer.proofs.below.+read_below.Goals as goal
@@ -43,9 +43,9 @@ returns-in_err-read_below-clause-exact t c =
     let sizes = c.size-size.ensures.size ∙ ap (λ (spanned : List ℕ). length (slice_index_or form.book.trees (get_or spanned (length place) 0) [])) c.as_slice.ensures in
     let small : code < length (slice_index_or form.book.trees (get_or form.table (length place) 0) []) = omega (arith, c.codes-test.true, sizes) in
     let p = err_from_is_err_and c.from_residual.result c.from_residual.ensures.1 in
-    let bad : Fails (fault_of c.in_err-read_below.field-0.0) (read_places form now (places_below form (place ++ code ∷ []))) =
-    subst (λ (q : List ℕ). Fails (fault_of c.in_err-read_below.field-0.0) (read_places form now (places_below form q))) same c.in_err-read_below.ensures.exact in
-    rw (p.1, p.2) (code-bad form now place code (read_places form (reading_of c.args.progress.now) (places_below form place)) (fault_of c.in_err-read_below.field-0.0) small c.codes.invariant.read bad)
+    let bad : Fails (release_fault_of c.in_err-read_below.field-0.0) (read_places form now (places_below form (place ++ code ∷ []))) =
+    subst (λ (q : List ℕ). Fails (release_fault_of c.in_err-read_below.field-0.0) (read_places form now (places_below form q))) same c.in_err-read_below.ensures.exact in
+    rw (p.1, p.2) (code-bad form now place code (read_places form (reading_of c.args.progress.now) (places_below form place)) (release_fault_of c.in_err-read_below.field-0.0) small c.codes.invariant.read bad)
 
 pub codes-preserved : goal.codes-preserved
 codes-preserved t c =

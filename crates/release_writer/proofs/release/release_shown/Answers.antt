@@ -3,7 +3,7 @@ use Rattle.std.proofs.lemmas.Result.{err_from_is_err_and}
 use Rattle.sdc_base.specs.Answers.{Fails}
 use Rattle.release_writer.specs.ReleaseReading.{release_read, read_table}
 use Rattle.release_writer.specs.LineChoices.{Template}
-use Rattle.release_writer.specs.Sheets.{fault_of}
+use Rattle.release_writer.specs.Sheets.{release_fault_of}
 use Rattle.release_writer.proofs.ReadTables.{tables-next, tables-bad, tables-end}
 use Rattle.release_writer.proofs.release.release_shown.Goals as goal
 
@@ -14,7 +14,7 @@ returns-in_err-shown c =
     let table = c.in-Some.table.now in
     let own = c.index-names-t.result in
     let bytes = c.index-tables-t.result in
-    let fault = fault_of c.in_err-shown.field-0.0 in
+    let fault = release_fault_of c.in_err-shown.field-0.0 in
     let form : Template = record { book = book; t = t; table = table; decimals = c.args.decimals; rounded = c.args.rounded } in
     let at : slice_get book.tables t ≡ Some table = search rules in
     let long : t < length c.args.names.now = omega (arith, c.tables-test.true, c.tables-t-end.ensures, c.requires.names.lists) in

@@ -6,7 +6,7 @@ use Rattle.worlds.specs.ProtectFaults.{asked_of}
 use Rattle.std.specs.List.{list_any}
 use Rattle.repair.specs.LevelQuestions.{AreGiven, IsGiven, IsLevelAnswer}
 use Rattle.repair.specs.HidingOrder.{Case, protected_case, IsOfKind, StandsAt}
-use Rattle.repair.specs.CellTrials.{serves_beside, AreSpare, AreTrialAnswers}
+use Rattle.repair.specs.CellTrials.{serves_beside, AreReusableTables, AreTrialAnswers}
 use Rattle.repair.specs.OnTheWay.{IsOfTrial}
 use Rattle.repair.proofs.OnTheWay.{given_by, trials_more}
 use Rattle.repair.proofs.AtHand.{protects_at_hand, protects_next, refuted_by, spare_kept}
@@ -28,10 +28,10 @@ returns-then-is_at_hand-clause-ok c =
     let asked : ℕ × Side = c.args.asked in
     let stands : StandsAt c.args.attempt.now.task.now.cells.now asked c.args.place = c.requires.stands in
     let is : IsOfKind c.args.attempt.now.task.now.cells.now asked.0 Primary = asked_primary c.args.attempt.now.task.now.cells.now c.args.place asked stands in
-    let spares : AreSpare task c.as_slice.result.now = subst (AreSpare task) (sym c.as_slice.ensures.value) c.requires.spares in
+    let reusable : AreReusableTables task c.as_slice.result.now = subst (AreReusableTables task) (sym c.as_slice.ensures.value) c.requires.reusable in
     let test = subst (λ (f : List Bool). (list_any (serves_beside is.cell asked f) c.args.attempt.now.worlds.now || list_any (λ spare. serves_beside is.cell asked f spare.world) c.as_slice.result.now) ≡ true) c.as_slice-flags.ensures (sym (c.is_at_hand.ensures is.cell is.found) ∙ c.if-is_at_hand.true) in
     protects_next task flags c.args.place asked stands
-    (protects_at_hand task flags asked is.cell (asked_of 0 c.args.attempt.now.task.now.cells.now) c.args.attempt.now.worlds.now c.as_slice.result.now is.found c.requires.kept spares test) c.requires.before
+    (protects_at_hand task flags asked is.cell (asked_of 0 c.args.attempt.now.task.now.cells.now) c.args.attempt.now.worlds.now c.as_slice.result.now is.found c.requires.kept reusable test) c.requires.before
 
 pub ask_walk-requires-clause-primary : goal.ask_walk-requires-clause-primary
 ask_walk-requires-clause-primary c = asked_primary c.args.attempt.now.task.now.cells.now c.args.place c.args.asked c.requires.stands
@@ -54,15 +54,15 @@ returns-in_default-clause-err c =
       cause = tt;
     }
 
-pub returns-in-Ok-clause-spares : goal.returns-in-Ok-clause-spares
-returns-in-Ok-clause-spares c =
+pub returns-in-Ok-clause-reusable : goal.returns-in-Ok-clause-reusable
+returns-in-Ok-clause-reusable c =
     let task : Case = protected_case c.args.attempt.now.task.now.system.now c.args.attempt.now.task.now.cells.now in
     let flags : List Bool = c.args.attempt.now.hidden.now.flags in
     let asked : ℕ × Side = c.args.asked in
     let stands : StandsAt c.args.attempt.now.task.now.cells.now asked c.args.place = c.requires.stands in
     let given : IsGiven (λ set. set ≡ flags) task.system task.cells asked c.in-Reaches.world = subst (IsLevelAnswer c.args.attempt.now.task.now.system.now c.args.attempt.now.task.now.cells.now flags asked) c.in-Reaches.is c.in_ok-answer.ensures.ok in
-    subst (AreSpare task) (sym c.in-Ok.ensures.ok)
-    (spare_kept task c.args.spares.now.items (record { place = c.args.place; world = c.in-Reaches.world }) (nat_lt (length c.args.spares.now.items) (length c.args.attempt.now.task.now.questions.now)) (record { asked = asked; stands = stands; kept = (flags, serving_by task flags c.args.place asked c.in-Reaches.world stands given) }) c.requires.spares)
+    subst (AreReusableTables task) (sym c.in-Ok.ensures.ok)
+    (spare_kept task c.args.reusable.now.items (record { place = c.args.place; world = c.in-Reaches.world }) (nat_lt (length c.args.reusable.now.items) (length c.args.attempt.now.task.now.questions.now)) (record { asked = asked; stands = stands; kept = (flags, serving_by task flags c.args.place asked c.in-Reaches.world stands given) }) c.requires.reusable)
 
 pub returns-in-Ok-clause-answers : goal.returns-in-Ok-clause-answers
 returns-in-Ok-clause-answers c =
@@ -75,7 +75,7 @@ returns-in-Ok-clause-answers c =
     let own : IsGiven (IsOfTrial task larger (c.args.attempt.now.cell + 1) flags) task.system task.cells asked c.in-Reaches.world =
     given_by task (IsOfTrial task larger (c.args.attempt.now.cell + 1) flags) flags asked c.in-Reaches.world now given in
     subst (AreTrialAnswers task larger (c.args.attempt.now.cell + 1) flags) (sym c.in-Ok.ensures.ok)
-    (trials_more task larger (c.args.attempt.now.cell + 1) flags c.args.spares.now.items (record { place = c.args.place; world = c.in-Reaches.world }) (nat_lt (length c.args.spares.now.items) (length c.args.attempt.now.task.now.questions.now)) (record { asked = asked; stands = stands; given = own }) before)
+    (trials_more task larger (c.args.attempt.now.cell + 1) flags c.args.reusable.now.items (record { place = c.args.place; world = c.in-Reaches.world }) (nat_lt (length c.args.reusable.now.items) (length c.args.attempt.now.task.now.questions.now)) (record { asked = asked; stands = stands; given = own }) before)
 
 pub returns-in-Ok-clause-ok : goal.returns-in-Ok-clause-ok
 returns-in-Ok-clause-ok c =

@@ -6,7 +6,7 @@ use Rattle.worlds.specs.ProtectFaults.{asked_of}
 use Rattle.worlds.proofs.TrueTests.{ok_more}
 use Rattle.sdc_base.specs.declared.side.Side.{Side}
 use Rattle.repair.specs.HidingOrder.{Case, protected_case, hide_subjects}
-use Rattle.repair.specs.CellTrials.{AreSpare, IsSpare, IsTrialAnswer, AreTrialAnswers, AnswerTrials, AnswerOnWay, IsTried}
+use Rattle.repair.specs.CellTrials.{AreReusableTables, IsReusableTable, IsTrialAnswer, AreTrialAnswers, AnswerTrials, AnswerOnWay, IsTried}
 use Rattle.repair.specs.OnTheWay.{IsOfFirst, AreAnswers}
 use Rattle.repair.proofs.OnTheWay.{answers_first, trials_later}
 use Rattle.repair.specs.Attempts.{is_open_at}
@@ -30,7 +30,7 @@ cells-init c =
           permitted = c.requires.served.permitted;
           kept = kept_by task flags all c.args.progress.now.worlds c.requires.served.served;
         };
-        spares = subst (AreSpare task) (sym c.requires.untried.no_spares) (All-nil (IsSpare task));
+        reusable = subst (AreReusableTables task) (sym c.requires.untried.no_spares) (All-nil (IsReusableTable task));
         last = c.requires.untried.last;
       };
       tried = record {
@@ -55,7 +55,7 @@ cells-preserved-then-not-is_open c =
       tried = record {
         are_tried = one_closed task larger number flags c.cells.tried.needs c.cells.tried.shown c.cells-test.true c.cells.invariant.ready.set.permitted
             (ap (λ (f : List Bool). is_open_at c.args.task.now.cells.now f c.cells.number) (sym c.as_slice.ensures) ∙ sym c.is_open.ensures ∙ c.if-not-is_open.true) before.are_tried;
-        answers = trials_later task larger number (number + 1) flags c.cells.tried.spares.items (omega arith) before.answers;
+        answers = trials_later task larger number (number + 1) flags c.cells.tried.reusable.items (omega arith) before.answers;
       };
     }
 
@@ -93,10 +93,10 @@ returns-clause-answers c =
     let worlds : AnswerOnWay c.args.task.now planned repairs flags c.cells.progress.worlds =
     answers_first task planned repairs flags c.cells.progress.worlds (subst (AreAnswers task (IsOfFirst planned repairs) (asked_of 0 c.args.task.now.cells.now)) (sym c.cells.invariant.worlds) is.answers) in
     let last : c.cells.number ≡ length c.args.task.now.cells.now = omega (arith, c.cells-test.false, c.cells.auto.number-end) in
-    let spares : AnswerTrials c.args.task.now planned repairs flags c.cells.tried.spares.items =
-    subst (λ n. AreTrialAnswers task (hide_subjects planned repairs) n flags c.cells.tried.spares.items) last
-    (subst (λ (l : List Bool). AreTrialAnswers task l c.cells.number flags c.cells.tried.spares.items) is.is_repaired.hidden_is c.cells.invariant.tried.answers) in
-    stays planned repairs worlds spares) c.renew_all.ensures.answers
+    let reusable : AnswerTrials c.args.task.now planned repairs flags c.cells.tried.reusable.items =
+    subst (λ n. AreTrialAnswers task (hide_subjects planned repairs) n flags c.cells.tried.reusable.items) last
+    (subst (λ (l : List Bool). AreTrialAnswers task l c.cells.number flags c.cells.tried.reusable.items) is.is_repaired.hidden_is c.cells.invariant.tried.answers) in
+    stays planned repairs worlds reusable) c.renew_all.ensures.answers
 
 pub cells-preserved : goal.cells-preserved
 cells-preserved c = search rules

@@ -7,7 +7,7 @@ use Rattle.worlds.specs.declared.world.World.{World}
 use Rattle.worlds.specs.ProtectFaults.{asked_of}
 use Rattle.worlds.proofs.TrueTests.{on_ok}
 use Rattle.repair.specs.HidingOrder.{Case, protected_case, hide, show, ProtectsAll}
-use Rattle.repair.specs.CellTrials.{AreKept, AreSpare, AreLast, AreTrialAnswers, ProtectsBeforeOr, IsRefuted, IsTried, IsTryStop, HasFault}
+use Rattle.repair.specs.CellTrials.{AreKept, AreReusableTables, AreLast, AreTrialAnswers, ProtectsBeforeOr, IsRefuted, IsTried, IsTryStop, HasFault}
 use Rattle.sdc_base.specs.declared.side.Side.{Side}
 use Rattle.repair.proofs.AtHand.{protects_all, spares_left}
 use Rattle.repair.specs.OnTheWay.{IsOfTrial}
@@ -25,8 +25,8 @@ invariant_of-attempt c =
       set = subst (λ (f : List Bool). IsPermittedSet task f) (sym c.set.ensures) (record { each = less.each; permitted = less.permitted });
     }
 
-pub first_refused-requires-clause-kept : goal.first_refused-requires-clause-kept
-first_refused-requires-clause-kept c =
+pub first_need-requires-clause-kept : goal.first_need-requires-clause-kept
+first_need-requires-clause-kept c =
     let task : Case = protected_case c.args.task.now.system.now c.args.task.now.cells.now in
     subst (λ (ws : List World). AreKept task (asked_of 0 c.args.task.now.cells.now) ws) (sym c.as_slice.ensures) c.requires.ready.set.kept
 
@@ -48,8 +48,8 @@ returns-in-None-clause-ready c =
     record {
       set = subst (λ (f : List Bool). IsTriedSet task f c.args.progress.now.worlds) (sym c.set.ensures)
           (tried_less task c.args.progress.now.hidden.flags c.args.progress.now.worlds c.args.cell c.requires.is_free c.requires.ready.set);
-      spares = subst (AreSpare task) (sym c.drop_unfit.ensures) (spares_left task c.as_slice-in-None.result.now c.first_refused.new.spares.items c.in_ok-found.ensures.spares);
-      last = c.first_refused.ensures.last;
+      reusable = subst (AreReusableTables task) (sym c.drop_unfit.ensures) (spares_left task c.as_slice-in-None.result.now c.first_need.new.reusable.items c.in_ok-found.ensures.reusable);
+      last = c.first_need.ensures.last;
     }
 
 pub returns-in-None-clause-ok : goal.returns-in-None-clause-ok
@@ -61,13 +61,13 @@ returns-in-None-clause-ok c =
     let told : ProtectsBeforeOr task c.set.new.self c.args.cell (length c.args.task.now.questions.now) None = subst (ProtectsBeforeOr task c.set.new.self c.args.cell (length c.args.task.now.questions.now)) c.in-None.is c.in_ok-found.ensures.ok in
     let all : ProtectsAll task (show flags c.args.cell) = subst (ProtectsAll task) c.set.ensures (protects_all task c.set.new.self (length c.args.task.now.questions.now) (ap (λ (l : List (ℕ × Side)). length l) c.args.task.now.fits.in_order) told) in
     let now : IsOfTrial task larger (c.args.cell + 1) (show flags c.args.cell) (show flags c.args.cell) = trial_now task larger c.args.cell flags inside before.are_tried.rest c.requires.is_free (before.are_tried.within c.args.cell c.requires.hidden) in
-    let earlier : AreTrialAnswers task larger (c.args.cell + 1) (show flags c.args.cell) c.args.tried.now.spares.items = trials_tried task larger c.args.cell flags c.args.tried.now.spares.items before.answers in
-    let answers : AreTrialAnswers task larger (c.args.cell + 1) c.set.new.self c.first_refused.new.spares.items = c.in_ok-found.ensures.answers larger (subst (λ (f : List Bool). IsOfTrial task larger (c.args.cell + 1) f f) (sym c.set.ensures) now) (subst (λ (f : List Bool). AreTrialAnswers task larger (c.args.cell + 1) f c.args.tried.now.spares.items) (sym c.set.ensures) earlier) in
+    let earlier : AreTrialAnswers task larger (c.args.cell + 1) (show flags c.args.cell) c.args.tried.now.reusable.items = trials_tried task larger c.args.cell flags c.args.tried.now.reusable.items before.answers in
+    let answers : AreTrialAnswers task larger (c.args.cell + 1) c.set.new.self c.first_need.new.reusable.items = c.in_ok-found.ensures.answers larger (subst (λ (f : List Bool). IsOfTrial task larger (c.args.cell + 1) f f) (sym c.set.ensures) now) (subst (λ (f : List Bool). AreTrialAnswers task larger (c.args.cell + 1) f c.args.tried.now.reusable.items) (sym c.set.ensures) earlier) in
     record {
       are_tried = subst (λ (f : List Bool). IsTried task larger (c.args.cell + 1) f c.args.tried.now.needs c.push.new.self) (sym c.set.ensures)
           (subst (λ (l : List ℕ). IsTried task larger (c.args.cell + 1) (show flags c.args.cell) c.args.tried.now.needs l) (sym c.in-Ok.ensures.ok)
           (one_shown task larger c.args.cell flags c.args.tried.now.needs c.args.tried.now.shown inside c.requires.hidden c.requires.is_free all before.are_tried));
-      answers = subst (AreTrialAnswers task larger (c.args.cell + 1) c.set.new.self) (sym c.drop_unfit.ensures) (trials_left task larger (c.args.cell + 1) c.set.new.self c.as_slice-in-None.result.now c.first_refused.new.spares.items answers);
+      answers = subst (AreTrialAnswers task larger (c.args.cell + 1) c.set.new.self) (sym c.drop_unfit.ensures) (trials_left task larger (c.args.cell + 1) c.set.new.self c.as_slice-in-None.result.now c.first_need.new.reusable.items answers);
     }
 
 pub returns-in-Some-clause-ready : goal.returns-in-Some-clause-ready
@@ -79,8 +79,8 @@ returns-in-Some-clause-ready c =
     on_ok (IsReadyToTry c.args.task.now c.put_back.new.progress c.put_back.new.tried) c.put_back.result (record {
       set = subst (λ (f : List Bool). IsTriedSet task f c.put_back.new.progress.worlds) (sym same)
           (subst (λ (ws : List World). IsTriedSet task flags ws) (sym c.put_back.ensures.worlds) c.requires.ready.set);
-      spares = subst (λ spares. AreSpare task spares.items) (sym c.put_back.ensures.spares) c.in_ok-found.ensures.spares;
-      last = subst (λ last. AreLast task last.items) (sym c.put_back.ensures.last) c.first_refused.ensures.last;
+      reusable = subst (λ reusable. AreReusableTables task reusable.items) (sym c.put_back.ensures.reusable) c.in_ok-found.ensures.reusable;
+      last = subst (λ last. AreLast task last.items) (sym c.put_back.ensures.last) c.first_need.ensures.last;
     })
 
 pub returns-in-Some-clause-ok : goal.returns-in-Some-clause-ok
@@ -94,15 +94,15 @@ returns-in-Some-clause-ok c =
     on_ok_two c.put_back.result c.put_back.ensures.needs c.put_back.ensures.shown (λ needs shown larger before.
     let back : c.put_back.new.tried.shown ≡ c.args.tried.now.shown = shown c.args.tried.now.shown c.args.cell c.in-Ok.ensures.ok in
     let now : IsOfTrial task larger (c.args.cell + 1) (show flags c.args.cell) (show flags c.args.cell) = trial_now task larger c.args.cell flags inside before.are_tried.rest c.requires.is_free (before.are_tried.within c.args.cell c.requires.hidden) in
-    let earlier : AreTrialAnswers task larger (c.args.cell + 1) (show flags c.args.cell) c.args.tried.now.spares.items = trials_tried task larger c.args.cell flags c.args.tried.now.spares.items before.answers in
-    let answers : AreTrialAnswers task larger (c.args.cell + 1) c.set.new.self c.first_refused.new.spares.items = c.in_ok-found.ensures.answers larger (subst (λ (f : List Bool). IsOfTrial task larger (c.args.cell + 1) f f) (sym c.set.ensures) now) (subst (λ (f : List Bool). AreTrialAnswers task larger (c.args.cell + 1) f c.args.tried.now.spares.items) (sym c.set.ensures) earlier) in
-    let again : AreTrialAnswers task larger (c.args.cell + 1) c.put_back.new.progress.hidden.flags c.first_refused.new.spares.items = subst (λ (f : List Bool). AreTrialAnswers task larger (c.args.cell + 1) f c.first_refused.new.spares.items) (sym c.put_back.ensures.flags) (trials_set task larger (c.args.cell + 1) c.set.new.self c.args.cell true c.first_refused.new.spares.items (omega arith) answers) in
+    let earlier : AreTrialAnswers task larger (c.args.cell + 1) (show flags c.args.cell) c.args.tried.now.reusable.items = trials_tried task larger c.args.cell flags c.args.tried.now.reusable.items before.answers in
+    let answers : AreTrialAnswers task larger (c.args.cell + 1) c.set.new.self c.first_need.new.reusable.items = c.in_ok-found.ensures.answers larger (subst (λ (f : List Bool). IsOfTrial task larger (c.args.cell + 1) f f) (sym c.set.ensures) now) (subst (λ (f : List Bool). AreTrialAnswers task larger (c.args.cell + 1) f c.args.tried.now.reusable.items) (sym c.set.ensures) earlier) in
+    let again : AreTrialAnswers task larger (c.args.cell + 1) c.put_back.new.progress.hidden.flags c.first_need.new.reusable.items = subst (λ (f : List Bool). AreTrialAnswers task larger (c.args.cell + 1) f c.first_need.new.reusable.items) (sym c.put_back.ensures.flags) (trials_set task larger (c.args.cell + 1) c.set.new.self c.args.cell true c.first_need.new.reusable.items (omega arith) answers) in
     record {
       are_tried = subst (λ (f : List Bool). IsTried task larger (c.args.cell + 1) f c.put_back.new.tried.needs c.put_back.new.tried.shown) (sym same)
           (subst (λ (rs : List Refuted). IsTried task larger (c.args.cell + 1) flags rs c.put_back.new.tried.shown) (sym needs)
           (subst (λ (l : List ℕ). IsTried task larger (c.args.cell + 1) flags (c.args.tried.now.needs ++ c.in-Some.need ∷ []) l) (sym back)
           (one_needed task larger c.args.cell flags c.args.tried.now.needs c.args.tried.now.shown c.in-Some.need inside c.requires.hidden c.requires.is_free told.0 refuted before.are_tried)));
-      answers = subst (λ spares. AreTrialAnswers task larger (c.args.cell + 1) c.put_back.new.progress.hidden.flags spares.items) (sym c.put_back.ensures.spares) again;
+      answers = subst (λ reusable. AreTrialAnswers task larger (c.args.cell + 1) c.put_back.new.progress.hidden.flags reusable.items) (sym c.put_back.ensures.reusable) again;
     })
 
 pub set-requires : goal.set-requires

@@ -5,7 +5,7 @@ use Rattle.std.proofs.lemmas.List.{length-replicate}
 use Rattle.std.proofs.lemmas.Result.{err_from_is_err_and}
 use Rattle.sdc_base.specs.declared.cell.Cell.{Cell}
 use Rattle.sdc_base.specs.declared.system.System.{System}
-use Rattle.sdc_base.specs.Grounds.{IsGround}
+use Rattle.sdc_base.specs.Patterns.{IsPattern}
 use Rattle.sdc_base.specs.Kinds.{is_primary_at}
 use Rattle.sdc_base.specs.Roundings.{IsRounding}
 use Rattle.sdc_base.specs.Signs.{AreSigns}
@@ -26,7 +26,7 @@ invariant_of-reader c =
       each_cell = c.requires.each_cell ∙ ap (λ (own : System). own.cells) (sym c.in_ok-signed.ensures);
       known_are = are;
       flags = c.in_ok-hidden.ensures ∙ ap (λ (own : System). all_hidden own.cells) (sym c.in_ok-signed.ensures);
-      ground = subst (λ (own : System). IsGround own c.as_slice.result.now c.in_ok-hidden.hidden.flags) (sym c.in_ok-signed.ensures) (record {
+      ground = subst (λ (own : System). IsPattern own c.as_slice.result.now c.in_ok-hidden.hidden.flags) (sym c.in_ok-signed.ensures) (record {
         each_cell = are.each ∙ c.requires.each_cell;
         each_flag = ap length c.in_ok-hidden.ensures ∙ length-replicate c.args.system.now.cells true;
       });

@@ -1,6 +1,6 @@
 use Rattle.std.proofs.Common.{◌≡◌, ◌<◌, ◌≤◌, ℕ, List, true, length, slice_index, ap, arith, sym, subst}
 use Rattle.sdc_base.specs.HiddenSets.{is_hidden}
-use Rattle.sdc_base.specs.Components.{names}
+use Rattle.sdc_base.specs.Components.{mentions}
 use Rattle.sdc_base.specs.Forests.{Meet}
 use Rattle.sdc_base.proofs.Connecting.{all-joined, part-joined, part-named, total-joined}
 use Rattle.sdc_base.proofs.connected.join_relation.Goals as goal
@@ -17,7 +17,7 @@ join_hidden-requires-in-parts-clause-cell_named c =
     let r = c.args.relation.now in
     let k = c.parts.part-index in
     let inside : k < length r.parts = subst (λ (list : List ℕ). k < length list) c.as_slice-part-items.ensures c.parts-test.true in
-    subst (λ (list : List ℕ). names r (slice_index list k) ≡ true) (sym c.as_slice-part-items.ensures) (part-named r k inside)
+    subst (λ (list : List ℕ). mentions r (slice_index list k) ≡ true) (sym c.as_slice-part-items.ensures) (part-named r k inside)
 
 pub parts-preserved : goal.parts-preserved
 parts-preserved c =

@@ -1,6 +1,6 @@
 use Rattle.std.proofs.Common.{sym, List, ℕ, subst, Result, Option}
 use Rattle.sdc_base.specs.Answers.{Gives}
-use Rattle.microdata.specs.Faults.{fault_of}
+use Rattle.microdata.specs.Faults.{row_fault_of}
 use Rattle.microdata.specs.Feeding.{ReaderView, HasRead, IsKeptOf}
 use Rattle.microdata.specs.Keeping.{IsReadyReader}
 use Rattle.microdata.specs.Microdata.{records_behind}
@@ -24,5 +24,5 @@ returns-clause-exact c =
     let r : ReaderView = record { measures = c.self.inside.measures; so_far = c.self.inside.so_far; begun = c.self.inside.begun.items; error = c.self.inside.error } in
     let h : HasRead r layout bytes = subst (λ (r : ReaderView). HasRead r layout bytes) (sym c.self.view_is) read in
     let ready = subst (λ (e : Option RowError). IsReadyReader e r.measures r.so_far r.begun) c.in_default.is c.self.invariant in
-    subst (λ (meant : Result Records (ℕ × RowWhy)). Gives fault_of (λ records. records) c.read_out.result meant) (sym (all-read r layout bytes c.in_default.is h ready.1))
-    (subst (λ (last : List ℕ). Gives fault_of (λ records. records) c.read_out.result (records_behind c.self.inside.measures c.self.inside.so_far last)) c.deref.ensures.value c.read_out.ensures.exact)
+    subst (λ (meant : Result Records (ℕ × RowWhy)). Gives row_fault_of (λ records. records) c.read_out.result meant) (sym (all-read r layout bytes c.in_default.is h ready.1))
+    (subst (λ (last : List ℕ). Gives row_fault_of (λ records. records) c.read_out.result (records_behind c.self.inside.measures c.self.inside.so_far last)) c.deref.ensures.value c.read_out.ensures.exact)

@@ -1,8 +1,0 @@
-//! Protected cells, guarded against the contributors that alone make up some of them.
-#![tactic(auto)]
-
-mod guarding;
-mod sets;
-mod shown_again;
-
-pub use guarding::{GuardedCells, ProtectedCells, Unguarded, guard_cells};

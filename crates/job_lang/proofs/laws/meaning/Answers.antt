@@ -1,5 +1,0 @@
-use Rattle.job_lang.proofs.Meant.{are_meant}
-use Rattle.job_lang.proofs.laws.meaning.Goals as goal
-
-pub returns : goal.returns
-returns c = are_meant

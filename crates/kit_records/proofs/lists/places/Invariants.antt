@@ -1,5 +1,0 @@
-use Rattle.std.proofs.Common.{◌≡◌, length}
-use Rattle.kit_records.proofs.lists.places.Given as goal
-
-abbrev pub invariant-lists : goal.invariant-lists
-invariant-lists l = length l.made.items ≡ l.numbers-index
