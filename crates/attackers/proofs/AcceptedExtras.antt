@@ -6,20 +6,20 @@ use Rattle.sdc_base.specs.Steps.{◌>>=◌, refuse, map_fault}
 use Rattle.sdc_base.proofs.StepLemmas.{bind_ok}
 use Rattle.sdc_base.specs.declared.cell.Cell.{Cell}
 use Rattle.sdc_base.specs.declared.cell.Kind.TheVariants.{Free}
-use Rattle.sdc_base.specs.HiddenSets.{is_hidden}
+use Rattle.sdc_base.specs.HiddenSets.{is_hidden, show, hide_cells}
 use Rattle.worlds.specs.ProtectFaults.{line_number}
 use Rattle.worlds.specs.RefutationFaults.{refutation_fault}
 use Rattle.worlds.specs.WorldFaults.{world_fault, IsGivenWorld}
 use Rattle.worlds.proofs.WorldLaws.{not_refused, world_law}
 use Rattle.worlds.proofs.RefutationLaws.{refutation_law}
 use Rattle.certificate.specs.declared.certificate.WorldLine.{WorldLine}
-use Rattle.repair.specs.HidingOrder.{Case, IsOfKind, show}
+use Rattle.repair.specs.HidingOrder.{Case, IsOfKind}
 use Rattle.attackers.specs.declared.attack.Attack.{Attack}
 use Rattle.certificate.specs.declared.extra.ExtraNeed.{ExtraNeed}
 use Rattle.certificate.specs.declared.extra.Extra.{Extra}
 use Rattle.attackers.specs.declared.faults.ExtraFault.TheVariants as fault
 use Rattle.attackers.specs.KnownCells.{without_known, is_served, IsAttack}
-use Rattle.attackers.specs.Extras.{attack_of, hide_cells}
+use Rattle.attackers.specs.Extras.{attack_of}
 use Rattle.attackers.specs.AttackOrder.{attacks_of}
 use Rattle.attackers.specs.ExtraFaults.{cells_fault, need_cells_fault, need_fault, needs_fault, guard_cells_fault, guards_fault, open_fault, attacks_fault, guarding_fault, extra_fault}
 use Rattle.attackers.proofs.AllAttacks.{within_cells, attacks_are}

@@ -12,18 +12,17 @@ use Rattle.sdc_base.specs.declared.cell.Cell.{Cell}
 use Rattle.sdc_base.specs.declared.cell.Kind.TheVariants.{Primary}
 use Rattle.sdc_base.specs.declared.side.Side.{Side}
 use Rattle.sdc_base.specs.Kinds.{is_primary, is_primary_at}
-use Rattle.sdc_base.specs.HiddenSets.{is_hidden}
+use Rattle.sdc_base.specs.HiddenSets.{is_hidden, hide, hide_cells}
 use Rattle.worlds.specs.declared.world.World.{World}
 use Rattle.worlds.specs.ProtectFaults.{asked_of}
 use Rattle.worlds.proofs.TrueTests.{both_true, not_true}
-use Rattle.repair.specs.HidingOrder.{IsOfKind, hide}
+use Rattle.repair.specs.HidingOrder.{IsOfKind}
 use Rattle.repair.proofs.Flags.{IsWithin, by_test, clash, same_or_other, hidden_here, hidden_other, within_itself, within_both}
 use Rattle.repair.proofs.Order.{asked_primary}
 use Rattle.attackers.specs.declared.attack.Attack.{Attack}
 use Rattle.attackers.specs.Alone.{is_sole}
 use Rattle.attackers.specs.KnownCells.{is_known, IsAttack, serves}
 use Rattle.attackers.specs.AttackOrder.{with_row, sole_rows, attack_by, attacks_on, attacks_of, is_unserved, unserved_on, unserved_attacks, IsThinned}
-use Rattle.attackers.specs.Extras.{hide_cells}
 use Rattle.attackers.proofs.Holding.{any_here}
 use Rattle.attackers.proofs.Knowing.{shown_past}
 use Rattle.attackers.proofs.Thinning.{thinned_both}

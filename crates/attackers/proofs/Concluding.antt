@@ -10,7 +10,7 @@ use Rattle.sdc_base.specs.Kinds.{is_free}
 use Rattle.sdc_base.specs.declared.cell.Cell.{Cell}
 use Rattle.sdc_base.specs.declared.cell.Kind.{Kind}
 use Rattle.sdc_base.specs.declared.cell.Kind.TheVariants.{Primary, Free, Fixed}
-use Rattle.sdc_base.specs.HiddenSets.{is_hidden, full_set, IsPermitted}
+use Rattle.sdc_base.specs.HiddenSets.{is_hidden, full_set, IsPermitted, hide, show, hide_cells}
 use Rattle.worlds.specs.declared.world.World.{World}
 use Rattle.worlds.specs.ProtectFaults.{asked_of, line_number}
 use Rattle.worlds.specs.RefutationFaults.{refutation_fault}
@@ -19,7 +19,7 @@ use Rattle.worlds.proofs.TrueTests.{and_true, both_true, not_true}
 use Rattle.worlds.proofs.WorldLaws.{then_ok, passes}
 use Rattle.worlds.proofs.RefutationLaws.{refutation_law}
 use Rattle.certificate.specs.declared.certificate.WorldLine.{WorldLine}
-use Rattle.repair.specs.HidingOrder.{Case, IsOfKind, hide, show}
+use Rattle.repair.specs.HidingOrder.{Case, IsOfKind}
 use Rattle.repair.specs.Needs.{set_when_tried}
 use Rattle.repair.proofs.Fewer.{refutation_fewer}
 use Rattle.repair.proofs.Flags.{by_test, clash, same_or_other, hidden_here, hidden_other}
@@ -30,7 +30,7 @@ use Rattle.certificate.specs.declared.extra.ExtraNeed.{ExtraNeed}
 use Rattle.certificate.specs.declared.extra.Extra.{Extra}
 use Rattle.attackers.specs.declared.faults.ExtraFault.TheVariants as fault
 use Rattle.attackers.specs.KnownCells.{without_known, is_attack, is_served, serves, IsAttack, Guards, GuardsAll}
-use Rattle.attackers.specs.Extras.{attack_of, subjects_of, hide_cells, Unguards}
+use Rattle.attackers.specs.Extras.{attack_of, subjects_of, Unguards}
 use Rattle.attackers.specs.ContributorTasks.{case_of}
 use Rattle.attackers.specs.Dropping.{is_beside, cells_beside, IsNeedBelow}
 use Rattle.attackers.specs.ExtraFaults.{is_free_at, may_be_extra, cells_fault, is_need_of, need_cells_fault, need_fault, needs_fault, guard_cells_fault, guards_fault, attacks_fault, guarding_fault, extra_fault}

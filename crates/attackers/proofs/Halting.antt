@@ -2,12 +2,12 @@
 use Rattle.std.proofs.Common.{◌≡◌, ℕ, inl, inr, not, Bool, true, false, List, [], ◌∷◌, ◌++◌, All, Option, refl, ap, sym, ◌∙◌, subst}
 use Rattle.std.proofs.lemmas.List.{get_or-set_other}
 use Rattle.std.proofs.lemmas.List.Elements.{All-nil, All-cons, All-head, All-tail, All-weaker}
-use Rattle.sdc_base.specs.HiddenSets.{is_hidden, full_set}
+use Rattle.sdc_base.specs.HiddenSets.{is_hidden, full_set, hide, show, hide_cells}
 use Rattle.worlds.proofs.TrueTests.{and_true, not_true}
 use Rattle.worlds.specs.declared.multipliers.Multipliers.{Multipliers}
 use Rattle.interval_audit.specs.declared.answer.AskFault.{AskFault}
 use Rattle.interval_audit.specs.declared.answer.AskFault.TheVariants.{Work, Wide, Size, Memory}
-use Rattle.repair.specs.HidingOrder.{Case, hide, show, show_all}
+use Rattle.repair.specs.HidingOrder.{Case, show_all}
 use Rattle.repair.specs.Needs.{set_when_tried}
 use Rattle.repair.proofs.Flags.{IsWithin, clash, same_or_other, within_both, within_itself}
 use Rattle.repair.proofs.Repairing.{none_is_more}
@@ -18,7 +18,7 @@ use Rattle.attackers.specs.declared.progress.Progress.{Progress}
 use Rattle.attackers.specs.declared.contributor_task.ContributorTask.{ContributorTask}
 use Rattle.attackers.specs.KnownCells.{Guards, GuardsBefore}
 use Rattle.attackers.specs.AttackOrder.{IsThinned}
-use Rattle.attackers.specs.Extras.{attack_of, hide_cells, subjects_of, IsInTurn, EachExtra}
+use Rattle.attackers.specs.Extras.{attack_of, subjects_of, IsInTurn, EachExtra}
 use Rattle.attackers.specs.ContributorTasks.{case_of, IsExtendedUpTo, IsAsked, IsHalted, IsCannot}
 use Rattle.attackers.specs.Dropping.{is_beside, AreDropped, IsTryStop, TriesStopFor}
 use Rattle.attackers.specs.GuardStops.{list_with_fault, row_with_fault, IsGuardStop, StopsFor, IsStopAsTold}

@@ -11,7 +11,7 @@ use Rattle.sdc_base.specs.declared.cell.Kind.{Kind}
 use Rattle.sdc_base.specs.declared.cell.Kind.TheVariants.{Primary, Free, Fixed}
 use Rattle.sdc_base.specs.Forms.{coefficient}
 use Rattle.sdc_base.specs.Systems.{Numbers}
-use Rattle.sdc_base.specs.HiddenSets.{is_hidden, may_hide, full_set, IsPermitted}
+use Rattle.sdc_base.specs.HiddenSets.{is_hidden, may_hide, full_set, IsPermitted, hide, hide_cells}
 use Rattle.sdc_base.specs.Refutations.{share, share_at, AreBounded}
 use Rattle.worlds.specs.declared.multipliers.Multipliers.{Multipliers}
 use Rattle.worlds.specs.RefutationFaults.{terms_added}
@@ -20,7 +20,7 @@ use Rattle.kept_questions.specs.declared.kept_answer.KeptAnswer.{KeptAnswer}
 use Rattle.kept_questions.specs.declared.kept_answer.KeptAnswer.TheVariants.{Reaches, Stops}
 use Rattle.interval_audit.specs.declared.answer.AskFault.{AskFault}
 use Rattle.interval_audit.specs.Answers.{ReachesTarget}
-use Rattle.repair.specs.HidingOrder.{Case, IsOfKind, hide, breaks, breaks_at, coefficients_for, IsCheapest}
+use Rattle.repair.specs.HidingOrder.{Case, IsOfKind, breaks, breaks_at, coefficients_for, IsCheapest}
 use Rattle.repair.specs.LevelQuestions.{IsLevelAnswer, HasCause}
 use Rattle.repair.proofs.Flags.{IsWithin, by_test, hidden_map, within_full}
 use Rattle.repair.proofs.Growing.{given_more}
@@ -29,7 +29,7 @@ use Rattle.repair.proofs.Repairing.{given_refutes, none_is_more, last_same, hidd
 use Rattle.attackers.specs.declared.attack.Attack.{Attack}
 use Rattle.certificate.specs.declared.extra.ExtraNeed.{ExtraNeed}
 use Rattle.attackers.specs.KnownCells.{is_known, without_known, with_known, target_of, GuardsBefore, IsAttack}
-use Rattle.attackers.specs.Extras.{attack_of, hide_cells, subjects_of, Unguards, IsInTurn, EachExtra}
+use Rattle.attackers.specs.Extras.{attack_of, subjects_of, Unguards, IsInTurn, EachExtra}
 use Rattle.attackers.specs.ContributorTasks.{IsExtended, IsAnswerAgainst, IsRefutedAt, IsCannot, IsAsked}
 use Rattle.attackers.proofs.AskedCells.{AttackSays, attack_says}
 use Rattle.attackers.proofs.Knowing.{left_says, closed_says, without_within, all_guards_more, world_serves}

@@ -6,7 +6,8 @@ use Rattle.worlds.specs.declared.world.Move.{Move}
 use Rattle.worlds.specs.declared.world.World.{World}
 use Rattle.worlds.specs.NumberLists.{terms_of, number_given}
 use Rattle.worlds.specs.WorldFaults.{IsGivenWorld}
-use Rattle.repair.specs.HidingOrder.{Case, hide}
+use Rattle.repair.specs.HidingOrder.{Case}
+use Rattle.sdc_base.specs.HiddenSets.{hide}
 use Rattle.repair.proofs.Flags.{same_or_other, hidden_other}
 
 or_false : (a b : Bool) → (a || b) ≡ false → (a ≡ false) × (b ≡ false)

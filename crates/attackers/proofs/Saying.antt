@@ -6,7 +6,7 @@ use Rattle.std.proofs.lemmas.List.Elements.{All-head, All-tail}
 use Rattle.sdc_base.specs.Forms.{Term}
 use Rattle.sdc_base.specs.Steps.{◌>>=◌, refuse}
 use Rattle.sdc_base.proofs.StepLemmas.{bind_ok}
-use Rattle.sdc_base.specs.HiddenSets.{is_hidden}
+use Rattle.sdc_base.specs.HiddenSets.{is_hidden, hide_cells}
 use Rattle.sdc_base.specs.declared.cell.Cell.{Cell}
 use Rattle.worlds.specs.NumberLists.{Ascend, terms_of}
 use Rattle.worlds.specs.ProtectFaults.{line_number}
@@ -21,7 +21,7 @@ use Rattle.certificate.specs.ExtraTexts.{IsNeedSpellable}
 use Rattle.certificate.specs.Spelling.{IsWorldSpellable}
 use Rattle.repair.specs.HidingOrder.{Case}
 use Rattle.attackers.specs.declared.faults.ExtraFault.TheVariants as fault
-use Rattle.attackers.specs.Extras.{attack_of, hide_cells}
+use Rattle.attackers.specs.Extras.{attack_of}
 use Rattle.attackers.specs.AttackOrder.{attacks_of}
 use Rattle.attackers.specs.ExtraFaults.{is_free_at, may_be_extra, cells_fault, need_cells_fault, needs_fault, guard_cells_fault, guards_fault, attacks_fault, guarding_fault}
 use Rattle.attackers.specs.ExtraAcceptance.{IsExtraNeed}

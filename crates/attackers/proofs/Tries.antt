@@ -6,7 +6,7 @@ use Rattle.std.proofs.lemmas.List.Elements.{All-nil, All-head, All-tail, All-con
 use Rattle.std.proofs.lemmas.Option.{slice_get_within, get_or_from_slice_get}
 use Rattle.sdc_base.specs.declared.cell.Cell.{Cell}
 use Rattle.sdc_base.specs.declared.cell.Kind.TheVariants.{Primary}
-use Rattle.sdc_base.specs.HiddenSets.{is_hidden, IsPermitted}
+use Rattle.sdc_base.specs.HiddenSets.{is_hidden, IsPermitted, hide, show}
 use Rattle.std.proofs.lemmas.Bool.Decides.{nat_tests}
 use Rattle.attackers.proofs.Knowing.{shown_past}
 use Rattle.worlds.specs.WorldFaults.{IsGivenWorld}
@@ -15,7 +15,7 @@ use Rattle.worlds.proofs.RefutationLaws.{no_world}
 use Rattle.interval_audit.specs.declared.answer.AskFault.{AskFault}
 use Rattle.interval_audit.specs.declared.answer.AskFault.TheVariants.{Work, Wide, Size, Memory}
 use Rattle.certificate.specs.declared.certificate.WorldLine.{WorldLine}
-use Rattle.repair.specs.HidingOrder.{Case, IsOfKind, hide, show, show_all}
+use Rattle.repair.specs.HidingOrder.{Case, IsOfKind, show_all}
 use Rattle.repair.specs.Needs.{set_when_tried}
 use Rattle.repair.proofs.Flags.{by_test, clash, same_or_other}
 use Rattle.attackers.proofs.Resting.{unmoved, still_world}

@@ -3,12 +3,12 @@ use Rattle.std.proofs.Common.{◌≡◌, ℕ, inl, inr, not, Bool, true, false, 
 use Rattle.std.specs.List.{range_with_len}
 use Rattle.std.proofs.lemmas.List.{get_or-set_other}
 use Rattle.std.proofs.lemmas.List.Elements.{All-nil, All-head, All-tail, All-cons}
-use Rattle.sdc_base.specs.HiddenSets.{is_hidden}
+use Rattle.sdc_base.specs.HiddenSets.{is_hidden, show, hide_cells}
 use Rattle.worlds.specs.declared.world.World.{World}
 use Rattle.worlds.proofs.TrueTests.{and_true, not_true}
 use Rattle.certificate.specs.declared.extra.Extra.{Extra}
 use Rattle.certificate.specs.declared.extra.ExtraNeed.{ExtraNeed}
-use Rattle.repair.specs.HidingOrder.{Case, show}
+use Rattle.repair.specs.HidingOrder.{Case}
 use Rattle.repair.specs.Needs.{set_when_tried}
 use Rattle.repair.proofs.Flags.{IsWithin, clash, same_or_other, within_both, within_itself}
 use Rattle.repair.proofs.Tries.{show_within}
@@ -18,7 +18,7 @@ use Rattle.attackers.specs.declared.extra.Guarded.TheVariants as guards
 use Rattle.attackers.specs.declared.contributor_task.ContributorTask.{ContributorTask}
 use Rattle.attackers.specs.AttackOrder.{attacks_of, unserved_attacks, IsThinned}
 use Rattle.attackers.specs.Dropping.{is_beside, cells_beside, IsNeedFor}
-use Rattle.attackers.specs.Extras.{attack_of, hide_cells, subjects_of}
+use Rattle.attackers.specs.Extras.{attack_of, subjects_of}
 use Rattle.attackers.specs.Narrowing.{IsNarrowed, IsOutcome}
 use Rattle.attackers.specs.ContributorTasks.{case_of}
 use Rattle.attackers.specs.Turns.{IsNeedWhenTried, AreLeftOfTurns, IsLeftOfTurns}

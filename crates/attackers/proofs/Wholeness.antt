@@ -11,7 +11,8 @@ use Rattle.interval_audit.specs.declared.answer.AskFault.{AskFault}
 use Rattle.interval_audit.specs.declared.answer.AskFault.TheVariants.{Work, Wide, Size, Memory}
 use Rattle.interval_audit.specs.WalkLimits.{HasNoWalk}
 use Rattle.certificate.specs.declared.extra.ExtraNeed.{ExtraNeed}
-use Rattle.repair.specs.HidingOrder.{Case, hide}
+use Rattle.repair.specs.HidingOrder.{Case}
+use Rattle.sdc_base.specs.HiddenSets.{hide}
 use Rattle.repair.specs.LevelQuestions.{AreGiven, HasCause}
 use Rattle.attackers.specs.declared.attack.Attack.{Attack}
 use Rattle.attackers.specs.declared.extra.Guarded.{Guarded}

@@ -1,7 +1,7 @@
 -- How far guarding against attacks has come (own).
 use Rattle.std.specs.Prelude.{◌≡◌, ℕ, ◌+◌, ◌<◌, pos, Bool, true, false, List, length, take, slice_get, All, Option, None, Some}
 use Rattle.sdc_base.specs.declared.cell.Kind.TheVariants.{Primary}
-use Rattle.sdc_base.specs.HiddenSets.{IsPermitted, full_set}
+use Rattle.sdc_base.specs.HiddenSets.{IsPermitted, full_set, hide_cells}
 use Rattle.sdc_base.specs.Signs.{AreSigns}
 use Rattle.worlds.specs.declared.multipliers.Multipliers.{Multipliers}
 use Rattle.worlds.specs.WorldFaults.{IsGivenWorld}
@@ -20,7 +20,7 @@ use Rattle.attackers.specs.declared.contributor_task.ContributorTask.{Contributo
 use Rattle.attackers.specs.declared.serving.Step.{Step}
 use Rattle.attackers.specs.declared.serving.Step.TheVariants.{Served, Extended, Cannot}
 use Rattle.attackers.specs.KnownCells.{with_known, without_known, target_of, Guards, GuardsBefore, serves, is_served}
-use Rattle.attackers.specs.Extras.{hide_cells, subjects_of, Unguards, IsInTurn, EachExtra, LastIsNotBehind}
+use Rattle.attackers.specs.Extras.{subjects_of, Unguards, IsInTurn, EachExtra, LastIsNotBehind}
 use Rattle.attackers.specs.WholeGuards.{IsWholeGuard}
 
 -- what is to be guarded

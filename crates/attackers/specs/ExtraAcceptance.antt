@@ -1,13 +1,13 @@
 -- Extra cells that are needed, and guard with a hidden set against every contributor (own).
 use Rattle.std.specs.Prelude.{◌≡◌, ℕ, Bool, false, List, All, Option}
 use Rattle.sdc_base.specs.declared.cell.Kind.TheVariants.{Free}
-use Rattle.sdc_base.specs.HiddenSets.{is_hidden}
-use Rattle.repair.specs.HidingOrder.{Case, IsOfKind, show}
+use Rattle.sdc_base.specs.HiddenSets.{is_hidden, show, hide_cells}
+use Rattle.repair.specs.HidingOrder.{Case, IsOfKind}
 use Rattle.certificate.specs.declared.extra.ExtraNeed.{ExtraNeed}
 use Rattle.certificate.specs.declared.extra.Extra.{Extra}
 use Rattle.attackers.specs.KnownCells.{IsAttack, GuardsAll}
 use Rattle.attackers.specs.AttackOrder.{attacks_of}
-use Rattle.attackers.specs.Extras.{attack_of, subjects_of, hide_cells, Unguards}
+use Rattle.attackers.specs.Extras.{attack_of, subjects_of, Unguards}
 
 -- A need shows that its subject must stay hidden: its attack is one, and its multipliers refute it for the hidden set
 -- without the subject.

@@ -4,12 +4,12 @@ use Rattle.std.specs.Option.{option_map_or}
 use Rattle.sdc_base.specs.Steps.{◌>>=◌, refuse, map_fault}
 use Rattle.sdc_base.specs.declared.cell.Cell.{Cell}
 use Rattle.sdc_base.specs.Kinds.{is_free, is_primary_at}
-use Rattle.sdc_base.specs.HiddenSets.{is_hidden}
+use Rattle.sdc_base.specs.HiddenSets.{is_hidden, show, hide_cells}
 use Rattle.worlds.specs.ProtectFaults.{line_number}
 use Rattle.worlds.specs.RefutationFaults.{refutation_fault}
 use Rattle.worlds.specs.WorldFaults.{world_fault}
 use Rattle.certificate.specs.declared.certificate.WorldLine.{WorldLine}
-use Rattle.repair.specs.HidingOrder.{Case, show}
+use Rattle.repair.specs.HidingOrder.{Case}
 use Rattle.repair.specs.Laws.{rank}
 use Rattle.attackers.specs.declared.attack.Attack.{Attack}
 use Rattle.certificate.specs.declared.extra.ExtraNeed.{ExtraNeed}
@@ -18,7 +18,7 @@ use Rattle.attackers.specs.declared.faults.ExtraFault.{ExtraFault}
 use Rattle.attackers.specs.declared.faults.ExtraFault.TheVariants as fault
 use Rattle.attackers.specs.KnownCells.{without_known, is_attack, is_served}
 use Rattle.attackers.specs.AttackOrder.{attacks_of}
-use Rattle.attackers.specs.Extras.{attack_of, hide_cells}
+use Rattle.attackers.specs.Extras.{attack_of}
 
 -- the fault of a call; want of memory names none
 abbrev pub extra_fault_of : ExtraFault → Option ExtraFault

@@ -1,8 +1,9 @@
 -- Extra cells: cells hidden one after another against attacks, each against a refutation (own).
-use Rattle.std.specs.Prelude.{◌≡◌, ℕ, ◌≤◌, Bool, List, [], ◌∷◌, ◌++◌, map, fold, slice_get, Some, Option}
+use Rattle.std.specs.Prelude.{◌≡◌, ℕ, ◌≤◌, Bool, List, [], ◌∷◌, ◌++◌, map, slice_get, Some, Option}
 use Rattle.worlds.specs.declared.multipliers.Multipliers.{Multipliers}
 use Rattle.worlds.specs.RefutationFaults.{IsGivenRefutation}
-use Rattle.repair.specs.HidingOrder.{Case, hide, coefficients_for, IsCheapest}
+use Rattle.repair.specs.HidingOrder.{Case, coefficients_for, IsCheapest}
+use Rattle.sdc_base.specs.HiddenSets.{hide}
 use Rattle.repair.specs.LevelQuestions.{AreGiven}
 use Rattle.attackers.specs.declared.attack.Attack.{Attack}
 use Rattle.certificate.specs.declared.extra.ExtraNeed.{ExtraNeed}
@@ -15,10 +16,6 @@ attack_of extra = record { row = extra.row; cell = extra.cell; side = extra.side
 -- the subjects of extra cells
 abbrev pub subjects_of : List ExtraNeed → List ℕ
 subjects_of extras = map (λ extra. extra.subject) extras
-
--- the set with these cells hidden too
-abbrev pub hide_cells : List Bool → List ℕ → List Bool
-hide_cells flags cells = fold hide flags cells
 
 -- multipliers refute that the hidden set guards against an attack
 abbrev pub Unguards : Case → List (Option ℕ) → List Bool → Attack → Multipliers → Type 0

@@ -6,7 +6,8 @@ use Rattle.repair.specs.HidingOrder.{Case, show_all}
 use Rattle.attackers.specs.declared.attack.Attack.{Attack}
 use Rattle.certificate.specs.declared.extra.ExtraNeed.{ExtraNeed}
 use Rattle.attackers.specs.declared.extra.GuardStop.{GuardStop}
-use Rattle.attackers.specs.Extras.{hide_cells, subjects_of, IsInTurn, EachExtra, LastIsNotBehind}
+use Rattle.attackers.specs.Extras.{subjects_of, IsInTurn, EachExtra, LastIsNotBehind}
+use Rattle.sdc_base.specs.HiddenSets.{hide_cells}
 use Rattle.attackers.specs.ContributorTasks.{IsAsked}
 use Rattle.attackers.specs.Dropping.{AreDropped}
 

@@ -1,6 +1,6 @@
 -- What guarding against a list of attacks comes to (own).
 use Rattle.std.specs.Prelude.{◌≡◌, ℕ, Bool, List, length}
-use Rattle.sdc_base.specs.HiddenSets.{IsPermitted}
+use Rattle.sdc_base.specs.HiddenSets.{IsPermitted, hide_cells}
 use Rattle.worlds.specs.ProtectFaults.{asked_of}
 use Rattle.certificate.specs.declared.certificate.WorldLine.{WorldLine}
 use Rattle.certificate.specs.declared.extra.Extra.{Extra}
@@ -8,7 +8,7 @@ use Rattle.certificate.specs.declared.extra.ExtraNeed.{ExtraNeed}
 use Rattle.attackers.specs.declared.extra.Guarded.{Guarded}
 use Rattle.attackers.specs.declared.extra.Guarded.TheVariants.{Guards, CannotAgainst}
 use Rattle.attackers.specs.declared.contributor_task.ContributorTask.{ContributorTask}
-use Rattle.attackers.specs.Extras.{hide_cells, subjects_of, IsInTurn, EachExtra}
+use Rattle.attackers.specs.Extras.{subjects_of, IsInTurn, EachExtra}
 use Rattle.attackers.specs.ContributorTasks.{case_of, IsCannot}
 use Rattle.attackers.specs.Dropping.{IsTried}
 use Rattle.attackers.specs.Guarding.{guards_in_order}

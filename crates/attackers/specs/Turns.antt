@@ -7,7 +7,8 @@ use Rattle.repair.specs.Needs.{set_when_tried}
 use Rattle.attackers.specs.declared.attack.Attack.{Attack}
 use Rattle.attackers.specs.declared.extra.Guarded.{Guarded}
 use Rattle.attackers.specs.declared.extra.Guarded.TheVariants.{Guards, CannotAgainst}
-use Rattle.attackers.specs.Extras.{hide_cells, subjects_of, IsInTurn, EachExtra}
+use Rattle.attackers.specs.Extras.{subjects_of, IsInTurn, EachExtra}
+use Rattle.sdc_base.specs.HiddenSets.{hide_cells}
 use Rattle.attackers.specs.Dropping.{IsNeedFor}
 
 -- a need is for the first attack that wasn't guarded against when its subject was tried

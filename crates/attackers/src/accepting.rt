@@ -3,9 +3,9 @@ ghost use Rattle.sdc_base.specs.Answers.{Gives};
 ghost use Rattle.sdc_base.specs.Patterns.{IsPattern};
 ghost use Rattle.worlds.specs.ProtectFaults.{line_number};
 ghost use Rattle.worlds.specs.WorldFaults.{IsGivenWorld};
-ghost use Rattle.repair.specs.HidingOrder.{protected_case, show};
+ghost use Rattle.repair.specs.HidingOrder.{protected_case};
+ghost use Rattle.sdc_base.specs.HiddenSets.{show};
 ghost use Rattle.attackers.specs.Extras as extras;
-ghost use Rattle.attackers.specs.Extras.{hide_cells};
 ghost use Rattle.attackers.specs.KnownCells as known;
 ghost use Rattle.attackers.specs.ExtraFaults as spec;
 ghost use Rattle.attackers.specs.ExtraFaults.{extra_fault_of};
@@ -16,8 +16,7 @@ use crate::faults::ExtraFault;
 use crate::known::{is_attack, is_primary_at, without_known};
 use crate::meeting::check_attacks;
 use certificate::{Extra, ExtraNeed, WorldLine};
-use repair::hide_all;
-use sdc_base::{Cell, Hidden, Items, Memory, Side, System, is_hidden};
+use sdc_base::{Cell, Hidden, Memory, Side, System, is_hidden};
 use std::alloc::Global;
 use worlds::{Pattern, check_refutation, check_world};
 
@@ -81,7 +80,7 @@ fn extra_cells_fault(
     let flags = pattern.hidden.flags.as_slice();
     check_cells(cells, flags, extra.cells.as_slice())?;
     check_need_cells(cells, soles, extra.cells.as_slice(), extra.needs.as_slice())?;
-    let all = with_cells(alloc, cells, flags, extra.cells.as_slice())?;
+    let all = pattern.hidden.with_cells(alloc, extra.cells.as_slice())?;
     let extended = Pattern {
         system: pattern.system,
         cells,
@@ -173,25 +172,6 @@ fn attack_of(need: &ExtraNeed) -> Attack
         cell: need.cell,
         side: need.side,
     }
-}
-
-// The hidden set with extra cells.
-fn with_cells(
-    alloc: Global,
-    cells: &[Cell],
-    flags: &[bool],
-    extras: &[u32],
-) -> Result<Hidden, Memory>
-    requires flags { length flags.now ≡ length cells.now }
-    requires cells { spec.cells_fault cells.now flags.now 0 0 extras.now ≡ Ok tt }
-    ensures flags { IfOk result (λ hidden. hidden.flags ≡ hide_cells flags.now extras.now) }
-    ensures each { IfOk result (λ hidden. length hidden.flags ≡ length flags.now) }
-{
-    let mut all = flags.to_vec(alloc)?;
-    hide_all(&mut all, extras);
-    Ok(Hidden {
-        flags: Items::new(all),
-    })
 }
 
 // The first fault of what the extra says of the set with its cells.

@@ -1,5 +1,5 @@
-ghost use Rattle.std.specs.Prelude.{◌≡◌, ◌<◌, ◌++◌, ◌∷◌, [], length, OnOk, OnErr};
-ghost use Rattle.repair.specs.HidingOrder.{hide};
+ghost use Rattle.std.specs.Prelude.{◌≡◌, ◌++◌, ◌∷◌, [], OnOk, OnErr};
+ghost use Rattle.sdc_base.specs.HiddenSets.{hide};
 
 use crate::asking::questions_about_more;
 use crate::contributor_task::ContributorTask;
@@ -42,16 +42,15 @@ impl Progress {
 
     /// Hides an extra cell, and keeps its reason.
     pub(crate) fn extend(&mut self, extra: ExtraNeed) -> Result<(), Memory>
-        requires { extra.subject < length self.old.hidden.flags }
         ensures guards { self.new.guards ≡ self.old.guards }
         ensures ok_flags { OnOk result (self.new.hidden.flags ≡ hide self.old.hidden.flags extra.subject) }
         ensures ok_extras { OnOk result (self.new.extras ≡ self.old.extras ++ extra ∷ []) }
         ensures err_flags { OnErr result (self.new.hidden.flags ≡ self.old.hidden.flags) }
         ensures err_extras { OnErr result (self.new.extras ≡ self.old.extras) }
     {
-        let subject = extra.subject as usize;
+        let subject = extra.subject;
         self.extras.push(extra)?;
-        self.hidden.flags.set(subject, true);
+        self.hidden.hide(subject);
         Ok(())
     }
 }

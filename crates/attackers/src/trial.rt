@@ -1,5 +1,5 @@
 ghost use Rattle.std.specs.Prelude.{◌<◌, length, take, IfOk, IfErr};
-ghost use Rattle.repair.specs.HidingOrder.{hide};
+ghost use Rattle.sdc_base.specs.HiddenSets.{hide};
 ghost use Rattle.attackers.specs.ContributorTasks.{AreGuardsOf, IsAskedOf};
 ghost use Rattle.attackers.specs.Dropping.{renewed_guards, IsRenewal, IsTrial, HasFaultOf};
 

@@ -1,6 +1,5 @@
 ghost use Rattle.std.specs.Prelude.{◌≡◌, ◌+◌, ◌<◌, ◌++◌, ◌∷◌, [], ℕ, List, true, length, IfErr, OnOk};
-ghost use Rattle.sdc_base.specs.HiddenSets.{is_hidden, IsPermitted};
-ghost use Rattle.repair.specs.HidingOrder.{hide};
+ghost use Rattle.sdc_base.specs.HiddenSets.{is_hidden, IsPermitted, hide};
 ghost use Rattle.attackers.specs.ContributorTasks.{case_of, HoldGuards};
 ghost use Rattle.attackers.specs.Dropping.{is_beside, renewed_guards, HasTried, TriesStopFor, IsCellTrial, IsCellTrialStop};
 
@@ -96,7 +95,7 @@ fn try_one(
     let Ok(()) = found.dropped.push(cell) else {
         return Err(out_of_memory());
     };
-    progress.hidden.flags.set(cell as usize, false);
+    progress.hidden.show(cell);
     let attempt = Attempt {
         task,
         cell,
@@ -169,7 +168,6 @@ fn put_back(
     progress: &mut Progress,
     found: &mut Findings,
 ) -> Result<(), RowFault>
-    requires { cell < length progress.old.hidden.flags }
     ensures flags { progress.new.hidden.flags ≡ hide progress.old.hidden.flags cell }
     ensures guards { progress.new.guards ≡ progress.old.guards }
     ensures extras { progress.new.extras ≡ progress.old.extras }
@@ -178,7 +176,7 @@ fn put_back(
         → found.new.dropped ≡ earlier) }
     ensures err { IfErr result (λ row_fault. row_fault.fault ≡ AskFault.Memory) }
 {
-    progress.hidden.flags.set(cell as usize, true);
+    progress.hidden.hide(cell);
     found.dropped.pop();
     let Ok(()) = found.needs.push(need) else {
         return Err(out_of_memory());

@@ -3,7 +3,7 @@ use Rattle.std.proofs.Common.{◌≡◌, ℕ, ◌==◌, Bool, true, false, List,
 use Rattle.std.proofs.lemmas.Bool.Decides.{nat_tests}
 use Rattle.std.specs.Prelude.{codes}
 use Rattle.std.proofs.lemmas.Slice.Eq.{bytes_eq-Decides}
-use Rattle.cell_listing.specs.Asked.{asked_stop, job_and_file_for_intervals, intervals_stop, is_asking, named_with, job_for_release, job_for_relations}
+use Rattle.cell_listing.specs.Asked.{asked_stop, job_and_file_for_intervals, intervals_stop, asks_for_intervals, named_with, job_for_release, job_for_relations}
 use Rattle.cell_listing.specs.Calls.{job_named}
 use Rattle.cell_listing.specs.declared.asked.AskStop.TheVariants as asked
 use Rattle.cell_listing.specs.declared.calls.ListStop.{ListStop}
@@ -77,7 +77,7 @@ four_words (a ∷ b ∷ c ∷ d ∷ []) name first second file p q r s size in0 
 four_words (a ∷ b ∷ c ∷ d ∷ e ∷ words) name first second file p q r s size in0 in1 in2 in3 = absurd (omega (arith, size))
 
 -- four words name what they ask for
-pub four_asked : (name first second file : List ℕ) → (if is_asking name first second file then Some (name, file) else None) ≡ job_and_file_for_intervals (name ∷ first ∷ second ∷ file ∷ [])
+pub four_asked : (name first second file : List ℕ) → (if asks_for_intervals name first second file then Some (name, file) else None) ≡ job_and_file_for_intervals (name ∷ first ∷ second ∷ file ∷ [])
 four_asked [] first second file = refl
 four_asked (b ∷ name) first second [] = let test : (length (b ∷ name) == 0) ≡ false = grind (arith, nat_tests) in rw test refl
 four_asked (b ∷ name) first second (d ∷ file) =
@@ -87,7 +87,7 @@ four_asked (b ∷ name) first second (d ∷ file) =
 
 -- four words that ask for intervals, and four that don't
 pub named_by_four : (words : List (List ℕ)) (name first second file p q r s : List ℕ) (test : Bool) → length words ≡ 4 → name ≡ get_or words 0 p → first ≡ get_or words 1 q → second ≡ get_or words 2 r → file ≡ get_or words 3 s
-    → is_asking name first second file ≡ test → (if test then Some (name, file) else None) ≡ job_and_file_for_intervals words
+    → asks_for_intervals name first second file ≡ test → (if test then Some (name, file) else None) ≡ job_and_file_for_intervals words
 named_by_four words name first second file p q r s test size in0 in1 in2 in3 is =
     ap (λ (t : Bool). if t then Some (name, file) else None) (sym is) ∙ four_asked name first second file
     ∙ ap job_and_file_for_intervals (sym (four_words words name first second file p q r s size in0 in1 in2 in3))

@@ -1,14 +1,14 @@
 -- Flags that are set for the cells with some numbers.
 use Rattle.std.proofs.Common.{◌≡◌, ℕ, zero, suc, ◌<◌, ◌==◌, ◌||◌, Bool, true, false, List, [], ◌∷◌, length, length-set, map, fold, replicate, Option, Some, if◌then◌else◌, refl, ap, ap₂, sym, ◌∙◌, arith}
 use Rattle.std.proofs.lemmas.Bool.Decides.{Decides-eqb}
-use Rattle.sdc_base.specs.HiddenSets.{is_hidden}
+use Rattle.sdc_base.specs.HiddenSets.{is_hidden, hide}
 use Rattle.sdc_base.specs.Kinds.{is_primary}
 use Rattle.sdc_base.specs.Trails.{corners_of}
 use Rattle.sdc_base.specs.declared.cell.Kind.{Kind}
 use Rattle.certificate.specs.declared.certificate.Certificate.{Certificate}
 use Rattle.certificate.specs.declared.extra.Extra.{Extra}
 use Rattle.worlds.specs.declared.refuted.Refuted.{Refuted}
-use Rattle.repair.specs.HidingOrder.{hide, hide_subjects}
+use Rattle.repair.specs.HidingOrder.{hide_subjects}
 use Rattle.repair.proofs.Flags.{by_test, hidden_here, hidden_other}
 use Rattle.cell_listing.specs.Flags.{AreHiddenCells, flags_of, outcome_in}
 use Rattle.cell_listing.specs.Outcomes.{cells_in, hidden_or_shown, is_among, origin_by, subjects_of}

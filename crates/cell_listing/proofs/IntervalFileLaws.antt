@@ -11,7 +11,8 @@ use Rattle.plain_text.specs.declared.stop.Stop.{Stop}
 use Rattle.plain_text.specs.declared.stop.Stop.TheVariants as stop
 use Rattle.cell_listing.proofs.Numerals.{decimal_apart}
 use Rattle.cell_listing.proofs.Marks.{after_at, before_at, cut_again, equal_bytes, mark_in, next-drop, same_bytes}
-use Rattle.cell_listing.specs.IntervalFiles.{file_read, has_heading, HasEnds, heading, is_comma, is_feed, is_fraction, is_range, is_upper_end, IsIntervalFileOf, IsNoIntervalFile, range_in, range_line, range_lines, ranges_read}
+use Rattle.sdc_base.specs.Lines.{is_line_feed}
+use Rattle.cell_listing.specs.IntervalFiles.{file_read, has_heading, HasEnds, heading, is_comma, is_fraction, is_range, is_upper_end, IsIntervalFileOf, IsNoIntervalFile, range_in, range_line, range_lines, ranges_read}
 use Rattle.cell_listing.specs.declared.cell_range.CellRange.{CellRange}
 use Rattle.cell_listing.proofs.IntervalEnds.{and_parts, fraction_apart, fraction_good, fraction_is, split, upper_apart, upper_good, upper_is}
 use Rattle.cell_listing.proofs.IntervalLines.{is_zero}
@@ -95,10 +96,10 @@ ranges_good [] text number ranges h =
     let same : [] ≡ ranges = (let got = over.2 in cc) in
     subst (λ (all : List CellRange). AreOfLines [] text all) same (record { cells = refl; ends = tt; text_is = none })
 ranges_good (cell ∷ hidden) text number ranges h =
-    let line : List ℕ = before_first is_feed text in
-    let rest : List ℕ = after_first is_feed text in
-    let ended = bind_ok (refuse number (not (list_any is_feed text))) _ ranges h in
-    let feed : list_any is_feed text ≡ true = not_false (list_any is_feed text) (refuse_fine number (not (list_any is_feed text)) ended.0 ended.1) in
+    let line : List ℕ = before_first is_line_feed text in
+    let rest : List ℕ = after_first is_line_feed text in
+    let ended = bind_ok (refuse number (not (list_any is_line_feed text))) _ ranges h in
+    let feed : list_any is_line_feed text ≡ true = not_false (list_any is_line_feed text) (refuse_fine number (not (list_any is_line_feed text)) ended.0 ended.1) in
     let first = bind_ok (or_fault number (range_in cell line)) _ ranges ended.2 in
     let others = bind_ok (ranges_read hidden rest (number + 1)) _ ranges first.2 in
     let one = range_good cell line first.0 (or_some number (range_in cell line) first.0 first.1) in
@@ -115,12 +116,12 @@ unfolding file_read
 file_good hidden text ranges h =
     let begun = bind_ok (refuse 1 (not (has_heading text))) _ ranges h in
     let headed : has_heading text ≡ true = not_false (has_heading text) (refuse_fine 1 (not (has_heading text)) begun.0 begun.1) in
-    let parts = and_parts (list_any is_feed text) (bytes_eq (before_first is_feed text) heading) headed in
-    let are = ranges_good hidden (after_first is_feed text) 2 ranges begun.2 in
+    let parts = and_parts (list_any is_line_feed text) (bytes_eq (before_first is_line_feed text) heading) headed in
+    let are = ranges_good hidden (after_first is_line_feed text) 2 ranges begun.2 in
     record {
       cells = are.cells;
       ends = are.ends;
-      text_is = cut_again 10 text parts.0 ∙ ap₂ (λ (a b : List ℕ). a ++ 10 ∷ b) (equal_bytes (before_first is_feed text) heading parts.1) are.text_is;
+      text_is = cut_again 10 text parts.0 ∙ ap₂ (λ (a b : List ℕ). a ++ 10 ∷ b) (equal_bytes (before_first is_line_feed text) heading parts.1) are.text_is;
     }
 
 -- ---- what is so is read
@@ -178,7 +179,7 @@ pub unheaded : (hidden text : List ℕ) → has_heading text ≡ false → file_
 unfolding file_read
 unheaded hidden text bad = rw bad refl
 
-pub headed : (hidden text : List ℕ) → has_heading text ≡ true → file_read hidden text ≡ ranges_read hidden (after_first is_feed text) 2
+pub headed : (hidden text : List ℕ) → has_heading text ≡ true → file_read hidden text ≡ ranges_read hidden (after_first is_line_feed text) 2
 unfolding file_read
 headed hidden text good = rw good refl
 

@@ -6,7 +6,8 @@ use Rattle.sdc_base.specs.Steps.{◌>>=◌, or_fault}
 use Rattle.plain_text.specs.Stops.{why_of}
 use Rattle.plain_text.specs.declared.stop.Stop.{Stop}
 use Rattle.plain_text.specs.declared.stop.Stop.TheVariants as stop
-use Rattle.cell_listing.specs.IntervalFiles.{is_comma, is_feed, is_range, range_in, ranges_read}
+use Rattle.sdc_base.specs.Lines.{is_line_feed}
+use Rattle.cell_listing.specs.IntervalFiles.{is_comma, is_range, range_in, ranges_read}
 use Rattle.cell_listing.specs.declared.cell_range.CellRange.{CellRange}
 
 -- ---- one line
@@ -29,16 +30,16 @@ more : (done : List CellRange) (range : CellRange) (read : Result (List CellRang
 more done range (Ok ranges) = ap (λ (all : List CellRange). Ok all) (sym (append_assoc done (range ∷ []) ranges))
 more done range (Err e) = refl
 
-pub line_next : (cell number : ℕ) (hidden text : List ℕ) (done : List CellRange) (range : CellRange) → list_any is_feed text ≡ true → or_fault number (range_in cell (before_first is_feed text)) ≡ Ok range
-    → on_with (done ++ range ∷ []) (ranges_read hidden (after_first is_feed text) (number + 1)) ≡ on_with done (ranges_read (cell ∷ hidden) text number)
+pub line_next : (cell number : ℕ) (hidden text : List ℕ) (done : List CellRange) (range : CellRange) → list_any is_line_feed text ≡ true → or_fault number (range_in cell (before_first is_line_feed text)) ≡ Ok range
+    → on_with (done ++ range ∷ []) (ranges_read hidden (after_first is_line_feed text) (number + 1)) ≡ on_with done (ranges_read (cell ∷ hidden) text number)
 unfolding ranges_read
-line_next cell number hidden text done range ended is = rw (ended, is) (sym (more done range (ranges_read hidden (after_first is_feed text) (number + 1))))
+line_next cell number hidden text done range ended is = rw (ended, is) (sym (more done range (ranges_read hidden (after_first is_line_feed text) (number + 1))))
 
-pub line_open : (cell number : ℕ) (hidden text : List ℕ) (done : List CellRange) → list_any is_feed text ≡ false → on_with done (ranges_read (cell ∷ hidden) text number) ≡ Err number
+pub line_open : (cell number : ℕ) (hidden text : List ℕ) (done : List CellRange) → list_any is_line_feed text ≡ false → on_with done (ranges_read (cell ∷ hidden) text number) ≡ Err number
 unfolding ranges_read
 line_open cell number hidden text done none = rw none refl
 
-pub line_stops : (cell number : ℕ) (hidden text : List ℕ) (done : List CellRange) (e : Stop ℕ) → list_any is_feed text ≡ true → Fails (why_of e) (or_fault number (range_in cell (before_first is_feed text))) → Fails (why_of e) (on_with done (ranges_read (cell ∷ hidden) text number))
+pub line_stops : (cell number : ℕ) (hidden text : List ℕ) (done : List CellRange) (e : Stop ℕ) → list_any is_line_feed text ≡ true → Fails (why_of e) (or_fault number (range_in cell (before_first is_line_feed text))) → Fails (why_of e) (on_with done (ranges_read (cell ∷ hidden) text number))
 unfolding ranges_read
 line_stops cell number hidden text done stop.Memory ended h = tt
 line_stops cell number hidden text done (stop.Fault why) ended h = rw (ended, h) refl

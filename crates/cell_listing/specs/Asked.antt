@@ -37,8 +37,8 @@ job_and_file_for_intervals ((b ∷ name) ∷ first ∷ second ∷ (d ∷ file) �
 job_and_file_for_intervals words = None
 
 -- two names of one byte or more have `--released --intervals` between them
-abbrev pub is_asking : List ℕ → List ℕ → List ℕ → List ℕ → Bool
-is_asking name first second file =
+abbrev pub asks_for_intervals : List ℕ → List ℕ → List ℕ → List ℕ → Bool
+asks_for_intervals name first second file =
     not (length name == 0) && (not (length file == 0)
     && (bytes_eq first (codes "--released") && bytes_eq second (codes "--intervals")))
 

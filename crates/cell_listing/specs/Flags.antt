@@ -1,12 +1,12 @@
 -- What a certificate says of cells, by a flag for each (own).
-use Rattle.std.specs.Prelude.{◌≡◌, ℕ, ◌||◌, Bool, false, List, [], Option, Some, fold, replicate, if◌then◌else◌}
+use Rattle.std.specs.Prelude.{◌≡◌, ℕ, ◌||◌, Bool, false, List, [], Option, Some, replicate, if◌then◌else◌}
 use Rattle.sdc_base.specs.HiddenSets.{is_hidden}
 use Rattle.sdc_base.specs.Kinds.{is_primary}
 use Rattle.sdc_base.specs.Trails.{corners_of}
 use Rattle.sdc_base.specs.declared.cell.Kind.{Kind}
 use Rattle.certificate.specs.declared.certificate.Certificate.{Certificate}
 use Rattle.certificate.specs.declared.extra.Extra.{Extra}
-use Rattle.repair.specs.HidingOrder.{hide, hide_subjects}
+use Rattle.repair.specs.HidingOrder.{hide_subjects}
 use Rattle.cell_listing.specs.Outcomes.{cells_in, origin_by}
 use Rattle.cell_listing.specs.declared.hidden_cells.HiddenCells.{HiddenCells}
 use Rattle.cell_listing.specs.declared.outcome.Origin.TheVariants as origin
@@ -15,7 +15,7 @@ use Rattle.cell_listing.specs.declared.outcome.Outcome.TheVariants as outcome
 
 -- a flag for each of so many cells, set for those with these numbers
 abbrev pub flags_of : ℕ → List ℕ → List Bool
-flags_of cells numbers = fold hide (replicate cells false) numbers
+flags_of cells numbers = hide_cells (replicate cells false) numbers
 
 -- the flags of so many cells are those of a certificate's hidden cells, of the corners of its steps, of the subjects of
 -- its repairs, and of extra cells

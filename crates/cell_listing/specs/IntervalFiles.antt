@@ -2,6 +2,7 @@
 use Rattle.std.specs.Prelude.{◌≡◌, ℕ, ◌+◌, ◌-◌, ◌^◌, ◌≤◌, ◌==◌, ◌&&◌, ◌||◌, ◌⊎◌, Bool, not, List, [], ◌∷◌, ◌++◌, codes, decimal, filter, length, map, if◌then◌else◌, Option, None, Some, is_some, Result, Ok, Err}
 use Rattle.std.specs.List.{AllByRecursion, after_first, before_first, list_any, range_with_len}
 use Rattle.std.specs.Str.{bytes_eq}
+use Rattle.sdc_base.specs.Lines.{is_line_feed}
 use Rattle.sdc_base.specs.Steps.{◌>>=◌, or_fault, refuse}
 use Rattle.certificate.specs.Numerals.{natural_in}
 use Rattle.certificate.specs.declared.certificate.Certificate.{Certificate}
@@ -78,10 +79,6 @@ is_comma b = b == 44
 abbrev pub is_slash : ℕ → Bool
 is_slash b = b == 47
 
--- a byte is LF
-abbrev pub is_feed : ℕ → Bool
-is_feed b = b == 10
-
 -- the text is that of a number, from this one on
 abbrev pub is_natural : ℕ → List ℕ → Bool
 is_natural low text = is_some (natural_in low greatest text)
@@ -120,20 +117,20 @@ ranges_read [] text number = do
   over ← refuse number (not (length text == 0))
   Ok []
 ranges_read (cell ∷ hidden) text number = do
-  ended ← refuse number (not (list_any is_feed text))
-  range ← or_fault number (range_in cell (before_first is_feed text))
-  ranges ← ranges_read hidden (after_first is_feed text) (number + 1)
+  ended ← refuse number (not (list_any is_line_feed text))
+  range ← or_fault number (range_in cell (before_first is_line_feed text))
+  ranges ← ranges_read hidden (after_first is_line_feed text) (number + 1)
   Ok (range ∷ ranges)
 
 -- the text begins with the line of the columns
 abbrev pub has_heading : List ℕ → Bool
-has_heading text = list_any is_feed text && bytes_eq (before_first is_feed text) heading
+has_heading text = list_any is_line_feed text && bytes_eq (before_first is_line_feed text) heading
 
 -- the ranges of hidden cells that an interval file says, or the number of the first line that isn't as it must be
 unfoldable pub file_read : List ℕ → List ℕ → Result (List CellRange) ℕ
 file_read hidden text = do
   begun ← refuse 1 (not (has_heading text))
-  ranges_read hidden (after_first is_feed text) 2
+  ranges_read hidden (after_first is_line_feed text) 2
 
 -- the text is no interval file of these hidden cells, whatever the ranges, and this is its first line that isn't as it
 -- must be

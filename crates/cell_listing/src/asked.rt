@@ -217,15 +217,15 @@ fn names_of(words: &[Text]) -> Option<(&Text, &Text)>
     }
     let name = &words[0];
     let file = &words[3];
-    if !is_asking(name, &words[1], &words[2], file) {
+    if !asks_for_intervals(name, &words[1], &words[2], file) {
         return None;
     }
     Some((name, file))
 }
 
 // Whether two names of one byte or more have the words for intervals between them.
-fn is_asking(name: &Text, first: &Text, second: &Text, file: &Text) -> bool
-    ensures { result ≡ spec.is_asking name.now first.now second.now file.now }
+fn asks_for_intervals(name: &Text, first: &Text, second: &Text, file: &Text) -> bool
+    ensures { result ≡ spec.asks_for_intervals name.now first.now second.now file.now }
 {
     if name.as_slice().is_empty() {
         return false;

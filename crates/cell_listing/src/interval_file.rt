@@ -1,5 +1,6 @@
 ghost use Rattle.std.specs.Prelude.{◌≡◌, ℕ, Err, IfOk};
 ghost use Rattle.std.specs.List.{list_any};
+ghost use Rattle.sdc_base.specs.Lines.{is_line_feed};
 ghost use Rattle.sdc_base.specs.Answers.{Gives};
 ghost use Rattle.sdc_base.specs.Steps.{or_fault};
 ghost use Rattle.plain_text.specs.Stops.{why_of};
@@ -48,7 +49,7 @@ fn has_heading(bytes: &[u8]) -> bool
 
 // Whether LF ends the first line.
 fn has_line(bytes: &[u8]) -> bool
-    ensures { result ≡ list_any spec.is_feed bytes.now }
+    ensures { result ≡ list_any is_line_feed bytes.now }
 {
     bytes.contains(&b'\n')
 }

@@ -4,7 +4,7 @@ use Rattle.std.specs.List.{AllByRecursion, list_any, range_with_len}
 use Rattle.std.proofs.lemmas.Bool.Decides.{Decides-eqb, nat_tests}
 use Rattle.std.proofs.lemmas.List.Elements.{All-head, All-tail}
 use Rattle.std.proofs.Math.Nat.{one-le-pow}
-use Rattle.sdc_base.specs.HiddenSets.{is_hidden}
+use Rattle.sdc_base.specs.HiddenSets.{is_hidden, hide}
 use Rattle.sdc_base.specs.Forms.{Term}
 use Rattle.sdc_base.specs.Systems.{Numbers}
 use Rattle.sdc_base.specs.Worlds.{IsWorld}
@@ -27,7 +27,7 @@ use Rattle.worlds.proofs.TrueTests.{true_unless}
 use Rattle.certificate.specs.Numerals.{ascends_from}
 use Rattle.certificate.specs.Spelling.{IsRefutationSpellable, IsSpellable, IsStepSpellable, IsWorldSpellable}
 use Rattle.modular_plan.specs.StepLaws.{IsWholeStep}
-use Rattle.repair.specs.HidingOrder.{Case, protected_case, hide}
+use Rattle.repair.specs.HidingOrder.{Case, protected_case}
 use Rattle.repair.specs.KeptWorlds.{AreServed}
 use Rattle.repair.specs.Repairs.{EachRepair, IsJustified}
 use Rattle.repair.specs.Verdicts.{AreNeeds, IsProtected}

@@ -17,7 +17,7 @@ use Rattle.sdc_base.specs.declared.side.Side.TheVariants.{Above, Below}
 use Rattle.sdc_base.specs.declared.system.System.{System}
 use Rattle.sdc_base.specs.Totals.{sum_below}
 use Rattle.sdc_base.specs.Forms.{coefficient}
-use Rattle.sdc_base.specs.HiddenSets.{is_hidden}
+use Rattle.sdc_base.specs.HiddenSets.{is_hidden, hide, show}
 use Rattle.sdc_base.specs.Kinds.{is_free}
 use Rattle.sdc_base.specs.Systems.{Numbers}
 use Rattle.sdc_base.specs.Worlds.{level, level_at, amount_toward}
@@ -35,7 +35,7 @@ use Rattle.worlds.proofs.WorldLaws.{not_refused, none_refused, world_law}
 use Rattle.worlds.proofs.ProtectLaws.{protect_law}
 use Rattle.worlds.proofs.RefutationLaws.{refutation_law}
 use Rattle.certificate.specs.declared.certificate.WorldLine.{WorldLine}
-use Rattle.repair.specs.HidingOrder.{IsOfKind, hide, show, coefficients_for, protected_case}
+use Rattle.repair.specs.HidingOrder.{IsOfKind, coefficients_for, protected_case}
 use Rattle.repair.specs.Repairs.{cell_and_side, IsJustified, EachRepair}
 use Rattle.repair.proofs.Fewer.{share_from_zero}
 use Rattle.cert_check.specs.declared.faults.CheckFault.{CheckFault}

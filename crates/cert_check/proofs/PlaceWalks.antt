@@ -11,7 +11,8 @@ use Rattle.linked_tables.specs.BookViews.{BookView}
 use Rattle.worlds.specs.declared.refuted.Refuted.{Refuted}
 use Rattle.worlds.specs.ProtectFaults.{asked_of, line_number}
 use Rattle.certificate.specs.declared.certificate.WorldLine.{WorldLine}
-use Rattle.repair.specs.HidingOrder.{hide, hide_subjects}
+use Rattle.repair.specs.HidingOrder.{hide_subjects}
+use Rattle.sdc_base.specs.HiddenSets.{hide}
 use Rattle.cert_check.specs.declared.faults.CheckFault.{CheckFault}
 use Rattle.cert_check.specs.declared.faults.CheckFault.TheVariants as fault
 use Rattle.cert_check.specs.WorldList.{fault_from, lines_fault, place_fault}

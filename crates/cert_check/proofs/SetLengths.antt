@@ -5,7 +5,8 @@ use Rattle.std.proofs.lemmas.List.Elements.{All-nil, All-cons}
 use Rattle.sdc_base.specs.declared.cell.Cell.{Cell}
 use Rattle.linked_tables.specs.declared.mark.Mark.{Mark}
 use Rattle.worlds.specs.declared.refuted.Refuted.{Refuted}
-use Rattle.repair.specs.HidingOrder.{hide, hide_subjects}
+use Rattle.repair.specs.HidingOrder.{hide_subjects}
+use Rattle.sdc_base.specs.HiddenSets.{hide}
 use Rattle.cert_check.specs.HiddenSet.{hidden_set}
 use Rattle.repair.proofs.Flags.{length-hidden}
 

@@ -8,7 +8,7 @@ use Rattle.std.proofs.lemmas.List.{append_assoc, length-append}
 use Rattle.std.proofs.lemmas.List.Elements.{All-head, All-tail}
 use Rattle.std.proofs.lemmas.Option.{slice_get_within}
 use Rattle.std.proofs.Math.Seq.{set-append_seam}
-use Rattle.sdc_base.specs.HiddenSets.{is_hidden}
+use Rattle.sdc_base.specs.HiddenSets.{is_hidden, hide, show}
 use Rattle.sdc_base.specs.Kinds.{is_free}
 use Rattle.sdc_base.specs.Steps.{◌>>=◌, refuse, map_fault}
 use Rattle.sdc_base.specs.declared.cell.Cell.{Cell}
@@ -31,7 +31,7 @@ use Rattle.worlds.proofs.TrueTests.{both_true}
 use Rattle.worlds.proofs.WorldLaws.{then_ok, passes, passes_none, world_law}
 use Rattle.worlds.proofs.RefutationLaws.{refutation_law}
 use Rattle.certificate.specs.declared.certificate.WorldLine.{WorldLine}
-use Rattle.repair.specs.HidingOrder.{Case, IsOfKind, hide, show, coefficients_for}
+use Rattle.repair.specs.HidingOrder.{Case, IsOfKind, coefficients_for}
 use Rattle.repair.specs.KeptWorlds.{IsServing, AreServed}
 use Rattle.repair.specs.Repairs.{cell_and_side, IsJustified, EachRepair}
 use Rattle.repair.specs.Needs.{IsNeed}

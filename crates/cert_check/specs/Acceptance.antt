@@ -17,7 +17,8 @@ use Rattle.certificate.specs.declared.certificate.WorldLine.{WorldLine}
 use Rattle.release_writer.specs.ReadingLaws.{AreTexts, IsReleased}
 use Rattle.release_writer.specs.ShownCells.{open_truth}
 use Rattle.sdc_base.specs.Trails.{corners_of}
-use Rattle.repair.specs.HidingOrder.{protected_case, IsOfKind, show, planned_set, IsSubset}
+use Rattle.repair.specs.HidingOrder.{protected_case, IsOfKind, planned_set, IsSubset}
+use Rattle.sdc_base.specs.HiddenSets.{show}
 use Rattle.repair.specs.Repairs.{IsJustified, EachRepair}
 use Rattle.repair.specs.Needs.{others_hidden}
 use Rattle.cert_check.specs.declared.case.Case.{Case}

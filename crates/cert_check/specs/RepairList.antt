@@ -3,14 +3,14 @@ use Rattle.std.specs.Prelude.{ℕ, ◌+◌, ◌&&◌, not, Bool, false, List, []
 use Rattle.std.specs.Option.{option_map_or}
 use Rattle.std.specs.Ordering.{int_eq}
 use Rattle.sdc_base.specs.Steps.{◌>>=◌, refuse, map_fault}
-use Rattle.sdc_base.specs.HiddenSets.{is_hidden}
+use Rattle.sdc_base.specs.HiddenSets.{is_hidden, hide}
 use Rattle.sdc_base.specs.Kinds.{is_free}
 use Rattle.sdc_base.specs.declared.cell.Cell.{Cell}
 use Rattle.sdc_base.specs.declared.system.System.{System}
 use Rattle.worlds.specs.declared.refuted.Refuted.{Refuted}
 use Rattle.worlds.specs.ProtectFaults.{line_number}
 use Rattle.worlds.specs.RefutationFaults.{refutation_fault}
-use Rattle.repair.specs.HidingOrder.{hide, coefficients_for}
+use Rattle.repair.specs.HidingOrder.{coefficients_for}
 use Rattle.repair.specs.Repairs.{cell_and_side}
 use Rattle.cert_check.specs.declared.faults.CheckFault.{CheckFault}
 use Rattle.cert_check.specs.declared.faults.CheckFault.TheVariants as fault

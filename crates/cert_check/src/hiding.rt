@@ -1,22 +1,18 @@
-ghost use Rattle.std.specs.Prelude.{◌≡◌, ◌<◌, ◌^◌, length, All, IfOk};
-ghost use Rattle.worlds.specs.ProtectFaults.{primary_shown, fixed_hidden};
+ghost use Rattle.std.specs.Prelude.{◌≡◌, ◌<◌, ◌^◌, length, IfOk};
 ghost use Rattle.cert_check.specs.HiddenSet as spec;
 
 use crate::faults::CheckFault;
-use repair::hide_all;
-use sdc_base::{Cell, Hidden, Items, Memory};
+use sdc_base::{Cell, Hidden, Memory};
 use std::alloc::Global;
+use worlds::{hidden_fixed, shown_primary};
 
 /// The set in which exactly these cells are hidden.
 pub(crate) fn hidden_set(alloc: Global, cells: u32, numbers: &[u32]) -> Result<Hidden, Memory>
-    requires { All (λ number. number < cells) numbers.now }
     ensures { IfOk result (λ hidden. hidden.flags ≡ spec.hidden_set cells numbers.now) }
 {
-    let mut flags = Vec::from_elem(alloc, false, cells as usize)?;
-    hide_all(&mut flags, numbers);
-    Ok(Hidden {
-        flags: Items::new(flags),
-    })
+    let mut hidden = Hidden::of_none(alloc, cells)?;
+    hidden.hide_all(numbers);
+    Ok(hidden)
 }
 
 /// Refuses a hidden set in which a primary cell is shown or a fixed one hidden.
@@ -32,32 +28,4 @@ pub(crate) fn check_permitted(cells: &[Cell], flags: &[bool]) -> Result<(), Chec
         return Err(CheckFault::FixedHidden(number));
     }
     Ok(())
-}
-
-// The first primary cell that is shown.
-fn shown_primary(cells: &[Cell], flags: &[bool]) -> Option<u32>
-    requires flags { length flags.now ≡ length cells.now }
-    requires fewer_than_2_32 { length cells.now < 2 ^ 32 }
-    ensures { result ≡ primary_shown flags.now 0 cells.now }
-{
-    for (number, cell) in cells.iter().enumerate() {
-        if cell.kind.is_primary() && !flags[number] {
-            return Some(number as u32);
-        }
-    }
-    None
-}
-
-// The first fixed cell that is hidden.
-fn hidden_fixed(cells: &[Cell], flags: &[bool]) -> Option<u32>
-    requires flags { length flags.now ≡ length cells.now }
-    requires fewer_than_2_32 { length cells.now < 2 ^ 32 }
-    ensures { result ≡ fixed_hidden flags.now 0 cells.now }
-{
-    for (number, cell) in cells.iter().enumerate() {
-        if cell.kind.is_fixed() && flags[number] {
-            return Some(number as u32);
-        }
-    }
-    None
 }

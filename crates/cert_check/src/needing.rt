@@ -143,7 +143,7 @@ fn check_need(
     if need.subject != subject {
         return Err(CheckFault::NeedCell(number));
     }
-    hidden.flags.set(subject as usize, false);
+    hidden.show(subject);
     if let Err(fault) = check_refutation(
         case.system,
         case.cells,
@@ -155,6 +155,6 @@ fn check_need(
     ) {
         return Err(CheckFault::Need(number, fault));
     }
-    hidden.flags.set(subject as usize, true);
+    hidden.hide(subject);
     Ok(())
 }

@@ -26,7 +26,7 @@ pub(crate) fn check_repairs(
 {
     for (place, repair) in repairs.iter().enumerate() {
         check_repair(system, cells, hidden, number_of(place), repair, scratch)?;
-        hidden.flags.set(repair.subject as usize, true);
+        hidden.hide(repair.subject);
     }
     Ok(())
 }

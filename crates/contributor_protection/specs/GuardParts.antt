@@ -1,6 +1,6 @@
 -- How the answer of guarding becomes a guarded set, or the reason why there is none (own).
 use Rattle.std.specs.Prelude.{◌≡◌, Bool, List, Result, Ok, Err}
-use Rattle.attackers.specs.Extras.{hide_cells}
+use Rattle.sdc_base.specs.HiddenSets.{hide_cells}
 use Rattle.attackers.specs.declared.extra.Guarded.{Guarded}
 use Rattle.attackers.specs.declared.extra.Guarded.TheVariants as guarded
 use Rattle.attackers.specs.declared.extra.GuardStop.{GuardStop}

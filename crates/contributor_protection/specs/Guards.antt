@@ -13,7 +13,7 @@ use Rattle.certificate.specs.ExtraTexts.{IsExtraSpellable}
 use Rattle.certificate.specs.declared.certificate.Certificate.{Certificate}
 use Rattle.attackers.specs.Alone.{AreSoles}
 use Rattle.attackers.specs.AttackOrder.{attacks_of}
-use Rattle.attackers.specs.Extras.{hide_cells}
+use Rattle.sdc_base.specs.HiddenSets.{hide_cells}
 use Rattle.attackers.specs.ExtraFaults.{extra_fault}
 use Rattle.attackers.specs.Guarding.{IsGuardedBy}
 use Rattle.attackers.specs.GuardStops.{StopsFor}

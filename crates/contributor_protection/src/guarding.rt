@@ -13,7 +13,6 @@ ghost use Rattle.contributor_protection.specs.Guards.{case_of, prices_in, IsCert
 ghost use Rattle.contributor_protection.specs.GuardParts.{IsMadeOf, IsStopOf};
 ghost use Rattle.contributor_protection.specs.WholeOutcomes.{IsWholeOutcome};
 
-use crate::sets::with_cells;
 use crate::shown_again::shown_again;
 use attackers::{Against, Attack, Extra, GuardStop, Guarded, UnguardedAttack, guard, soles};
 use certificate::Certificate;
@@ -184,7 +183,7 @@ fn guarded_by(
 {
     match answer {
         Guarded::Guards(extra) => {
-            let larger = with_cells(alloc, hidden, extra.cells.as_slice())?;
+            let larger = hidden.with_cells(alloc, extra.cells.as_slice())?;
             Ok(GuardedCells {
                 certificate,
                 extra,

@@ -2,7 +2,6 @@
 #![tactic(auto)]
 
 mod guarding;
-mod sets;
 mod shown_again;
 
 pub use guarding::{GuardFailure, GuardedCells, ProtectedCells, guard_cells};

@@ -6,7 +6,7 @@ use Rattle.sdc_base.specs.declared.rows.Row.{Row}
 use Rattle.attackers.specs.Alone.{AreSoles}
 use Rattle.attackers.specs.ExtraAcceptance.{IsGuarding}
 use Rattle.attackers.specs.ExtraFaults.{extra_fault, extra_fault_of}
-use Rattle.attackers.specs.Extras.{hide_cells}
+use Rattle.sdc_base.specs.HiddenSets.{hide_cells}
 use Rattle.attackers.specs.KnownCells.{Guards, IsAttack}
 use Rattle.attackers.specs.declared.attack.Attack.{Attack}
 use Rattle.cert_check.specs.Acceptance.{IsAccepted, IsOfCase}

@@ -1,6 +1,5 @@
 ghost use Rattle.std.specs.Prelude.{◌≡◌, ◌<◌, ◌^◌, IfOk, length};
 ghost use Rattle.sdc_base.specs.Answers.{Gives};
-ghost use Rattle.worlds.specs.ProtectFaults.{fixed_hidden};
 ghost use Rattle.cert_check.specs.FirstFault.{check_fault_of};
 ghost use Rattle.published_tables.specs.TablesOnShelf.{IsReadyShelved};
 ghost use Rattle.job_intervals.specs.ShownTables.{fixed_fault, flags_in, lines_read};
@@ -11,6 +10,7 @@ use published_tables::ShelvedJob;
 use release_writer::{hidden_of, hidden_sets_are_read_back};
 use sdc_base::{Cell, Hidden};
 use std::alloc::Global;
+use worlds::hidden_fixed;
 
 /// The cells that the tables of a job hide, or the first fault of the tables: the first line that the texts of no
 /// hidden set have, or else the first fixed cell that is hidden.
@@ -52,18 +52,4 @@ fn check_fixed(cells: &[Cell], flags: &[bool]) -> Result<(), CheckFault>
         Some(number) => Err(CheckFault::FixedHidden(number)),
         None => Ok(()),
     }
-}
-
-// The first fixed cell that is hidden.
-fn hidden_fixed(cells: &[Cell], flags: &[bool]) -> Option<u32>
-    requires flags { length flags.now ≡ length cells.now }
-    requires fewer_than_2_32 { length cells.now < 2 ^ 32 }
-    ensures { result ≡ fixed_hidden flags.now 0 cells.now }
-{
-    'cells: for (number, cell) in cells.iter().enumerate() {
-        if cell.kind.is_fixed() && flags[number] {
-            return Some(number as u32);
-        }
-    }
-    None
 }

@@ -10,7 +10,7 @@ use Rattle.sdc_base.specs.declared.rows.Row.{Row}
 use Rattle.sdc_base.specs.declared.system.System.{System}
 use Rattle.sdc_base.specs.declared.trail.PlanStep.{PlanStep}
 use Rattle.attackers.specs.Alone.{AreSoles, IsSole, TellFrequencies}
-use Rattle.attackers.specs.Extras.{hide_cells}
+use Rattle.sdc_base.specs.HiddenSets.{hide_cells}
 use Rattle.attackers.specs.declared.extra.Against.{Against}
 use Rattle.attackers.proofs.Concluding.{length-hide_cells}
 use Rattle.certificate.specs.Certificates.{certificate_of}

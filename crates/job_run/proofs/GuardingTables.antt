@@ -5,7 +5,7 @@ use Rattle.std.specs.Option.{option_map_or}
 use Rattle.std.proofs.lemmas.List.{length-set}
 use Rattle.std.proofs.lemmas.List.Elements.{All-head, All-tail}
 use Rattle.std.proofs.lemmas.Option.{slice_get_within}
-use Rattle.sdc_base.specs.HiddenSets.{is_hidden, IsPermitted, MayHide}
+use Rattle.sdc_base.specs.HiddenSets.{is_hidden, IsPermitted, MayHide, hide, hide_cells}
 use Rattle.sdc_base.specs.Kinds.{is_primary, is_primary_at}
 use Rattle.sdc_base.specs.Worlds.{Protects}
 use Rattle.sdc_base.specs.declared.cell.Cell.{Cell}
@@ -13,11 +13,10 @@ use Rattle.sdc_base.specs.declared.cell.Kind.{Kind}
 use Rattle.sdc_base.specs.declared.cell.Kind.TheVariants.{Primary, Free}
 use Rattle.sdc_base.specs.declared.side.Side.{Side}
 use Rattle.sdc_base.specs.declared.side.Side.TheVariants.{Above, Below}
-use Rattle.repair.specs.HidingOrder.{Case, protected_case, hide, IsOfKind}
+use Rattle.repair.specs.HidingOrder.{Case, protected_case, IsOfKind}
 use Rattle.repair.proofs.Flags.{IsWithin, by_test, permitted_more}
 use Rattle.repair.proofs.Growing.{protects_more}
 use Rattle.attackers.specs.Alone.{is_sole}
-use Rattle.attackers.specs.Extras.{hide_cells}
 use Rattle.attackers.specs.KnownCells.{is_known, is_left, without_known, IsAttack}
 use Rattle.attackers.specs.declared.attack.Attack.{Attack}
 use Rattle.attackers.proofs.AllAttacks.{within_cells}

@@ -9,7 +9,7 @@ use Rattle.std.proofs.lemmas.Slice.Zip.{firsts-zip}
 use Rattle.sdc_base.proofs.GrowingLists.{read-at}
 use Rattle.sdc_base.proofs.StepLemmas.{bind_ok}
 use Rattle.sdc_base.proofs.WeakDual.{All-found}
-use Rattle.sdc_base.specs.HiddenSets.{is_hidden, full_set}
+use Rattle.sdc_base.specs.HiddenSets.{is_hidden, full_set, hide, hide_cells}
 use Rattle.sdc_base.specs.Records.{Name}
 use Rattle.sdc_base.specs.RuleLevels.{Figures, figures_in}
 use Rattle.sdc_base.specs.Roundings.{IsAdjacent}
@@ -23,7 +23,7 @@ use Rattle.sdc_base.specs.declared.side.Side.{Side}
 use Rattle.sdc_base.specs.declared.system.System.{System}
 use Rattle.worlds.proofs.RefutationLaws.{no_world}
 use Rattle.worlds.specs.declared.multipliers.Multipliers.{Multipliers}
-use Rattle.repair.specs.HidingOrder.{protected_case, hide}
+use Rattle.repair.specs.HidingOrder.{protected_case}
 use Rattle.repair.proofs.Flags.{same_or_other, hidden_here, hidden_other}
 use Rattle.repair.proofs.Growing.{protects_more}
 use Rattle.repair.proofs.Order.{asked_primary}
@@ -36,7 +36,7 @@ use Rattle.apriori.specs.Settling.{SettledCell, figures_of, settle_of, settled_c
 use Rattle.apriori.specs.declared.faults.PriorWhy.{PriorWhy}
 use Rattle.apriori.specs.declared.prior.Prior.{Prior}
 use Rattle.attackers.specs.declared.attack.Attack.{Attack}
-use Rattle.attackers.specs.Extras.{attack_of, hide_cells, subjects_of}
+use Rattle.attackers.specs.Extras.{attack_of, subjects_of}
 use Rattle.attackers.specs.ExtraAcceptance.{IsExtraNeed}
 use Rattle.attackers.specs.Alone.{is_sole}
 use Rattle.attackers.specs.KnownCells.{without_known}

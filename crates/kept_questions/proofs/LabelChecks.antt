@@ -10,7 +10,7 @@ use Rattle.sdc_base.specs.Forms.{Term, coefficient}
 use Rattle.tableau.specs.OptimalPairs.{IsNotBelowZeros}
 use Rattle.interval_audit.specs.Labels.{Label, CapAbove, CapBelow, caps_for}
 use Rattle.interval_audit.specs.MovePairs.{bound_of, limit, toward}
-use Rattle.kept_questions.specs.Checks.{LabelFits, LabelsFit, pressed}
+use Rattle.kept_questions.specs.Checks.{LabelFits, LabelsFit, pressure_of}
 use Rattle.kept_questions.specs.TermLists.{bound_at, moves_in}
 use Rattle.kept_questions.specs.declared.labels.Checked.{Checked}
 use Rattle.kept_questions.proofs.SideSums.{not_below_same}
@@ -46,7 +46,7 @@ limit_same cells k label zero = refl
 limit_same cells k label (suc s) = refl
 
 -- what a check of a side says of the row with a label
-pub side_fits : (checked : Checked) (k : ℕ) (label : Label) (den bound times pressure : ℤ) (own : ℕ) (list : List Term) → den ≡ checked.den → own ≡ k → bound ≡ bound_of checked.cells.now label → pressure ≡ pressed checked label →
+pub side_fits : (checked : Checked) (k : ℕ) (label : Label) (den bound times pressure : ℤ) (own : ℕ) (list : List Term) → den ≡ checked.den → own ≡ k → bound ≡ bound_of checked.cells.now label → pressure ≡ pressure_of checked label →
     ((i : ℕ) → times *ℤ coefficient list i ≡ toward checked.system.now (moves_in checked.lists.now) label i) →
     ((size : ℕ) → IsNotBelowZeros size (λ i. den *ℤ bound_at bound own i -ℤ times *ℤ coefficient list i)) →
     (pos 1 ≤ℤ pressure → (i : ℕ) → times *ℤ coefficient list i ≡ den *ℤ bound_at bound own i) → LabelFits checked k label

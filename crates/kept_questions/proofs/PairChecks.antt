@@ -12,7 +12,7 @@ use Rattle.interval_audit.specs.Groups.{Group, IsComponentOf, members}
 use Rattle.interval_audit.specs.Labels.{Label, CapAbove, CapBelow, Form, Negated, caps_for, forms_for, met_relations}
 use Rattle.interval_audit.specs.MovePairs.{IsMovePair, labels_of, left_over, pressure, places}
 use Rattle.interval_audit.specs.declared.question.Question.{Question}
-use Rattle.kept_questions.specs.Checks.{LabelFits, LabelsFit, IsHeldBelow, pressed}
+use Rattle.kept_questions.specs.Checks.{LabelFits, LabelsFit, IsHeldBelow, pressure_of}
 use Rattle.kept_questions.specs.TermLists.{list_at, moves_in}
 use Rattle.kept_questions.specs.declared.labels.Checked.{Checked}
 use Rattle.kept_questions.proofs.LabelChecks.{labels_behind}
@@ -33,7 +33,7 @@ label_at checked k (suc j) (x ∷ xs) label all found =
 
 -- what presses a row presses it where its cell is hidden
 pressed_so : (checked : Checked) (flags : List Bool) (group : Group) (question : Question) (q : ℤ) (label : Label) → ((c : ℕ) → number_at checked.left.now c ≡ left_over checked.system.now group question q (number_at checked.weights.now) c) →
-    pos 1 ≤ℤ pressure checked.system.now flags group question q (number_at checked.weights.now) label → pos 1 ≤ℤ pressed checked label
+    pos 1 ≤ℤ pressure checked.system.now flags group question q (number_at checked.weights.now) label → pos 1 ≤ℤ pressure_of checked label
 pressed_so checked flags group question q (CapAbove c) each up =
     elim (is_hidden flags c) as (λ b. pos 1 ≤ℤ (if b then left_over checked.system.now group question q (number_at checked.weights.now) c else pos 0) → pos 1 ≤ℤ number_at checked.left.now c) [
       | true ↦ λ more. omega (arith, ints, more, each c)

@@ -9,17 +9,17 @@ use Rattle.kept_questions.specs.declared.labels.Checked.{Checked}
 use Rattle.kept_questions.specs.TermLists.{moves_in}
 
 -- what presses the row with a label against its bound: what is left over at a cell, or a relation's weight
-abbrev pub pressed : Checked → Label → ℤ
-pressed checked (CapAbove cell) = number_at checked.left.now cell
-pressed checked (CapBelow cell) = neg_ℤ (number_at checked.left.now cell)
-pressed checked (Form number) = neg_ℤ (number_at checked.weights.now number)
-pressed checked (Negated number) = number_at checked.weights.now number
+abbrev pub pressure_of : Checked → Label → ℤ
+pressure_of checked (CapAbove cell) = number_at checked.left.now cell
+pressure_of checked (CapBelow cell) = neg_ℤ (number_at checked.left.now cell)
+pressure_of checked (Form number) = neg_ℤ (number_at checked.weights.now number)
+pressure_of checked (Negated number) = number_at checked.weights.now number
 
 -- the row with a label, at this place, isn't past its bound, and stands at it where it is pressed against it
 pub record LabelFits (checked : Checked) (k : ℕ) (label : Label) : Type 0 where
   pub within : (size : ℕ) → IsNotBelowZeros size (λ place. checked.den *ℤ limit checked.cells.now k label place
       -ℤ toward checked.system.now (moves_in checked.lists.now) label place)
-  pub stands : pos 1 ≤ℤ pressed checked label → (place : ℕ) →
+  pub stands : pos 1 ≤ℤ pressure_of checked label → (place : ℕ) →
       toward checked.system.now (moves_in checked.lists.now) label place
       ≡ checked.den *ℤ limit checked.cells.now k label place
 

@@ -4,7 +4,7 @@ use crate::kept_search::{Finds, KeptSearch, SystemCells, find_in, search_over};
 use crate::scope::Scope;
 use compact_search::Found;
 use interval_audit::Question;
-use sdc_base::{Cell, Hidden, Items, Side, System, components};
+use sdc_base::{Cell, Hidden, Side, System, components};
 use std::alloc::Global;
 use worlds::Pattern;
 
@@ -22,13 +22,10 @@ pub(crate) struct PrimarySearch {
 impl PrimarySearch {
     // That of these cells; none where memory is wanting or there isn't a cell for each of the system.
     pub(crate) fn new(alloc: Global, system: &System, cells: &[Cell]) -> Option<PrimarySearch> {
-        let flags = primary_flags(alloc, cells)?;
-        if flags.len() != system.cells as usize {
+        if cells.len() != system.cells as usize {
             return None;
         }
-        let hidden = Hidden {
-            flags: Items::new(flags),
-        };
+        let hidden = Hidden::of_primary(alloc, cells).ok()?;
         let grouping = components(alloc, system, &hidden).ok()?;
         Some(PrimarySearch {
             of: grouping.of.into_vec(),
@@ -79,15 +76,6 @@ impl PrimarySearch {
             Side::Below => &mut self.missed_below,
         }
     }
-}
-
-// A flag for each cell, set for the primary ones.
-fn primary_flags(alloc: Global, cells: &[Cell]) -> Option<Vec<bool>> {
-    let mut flags = Vec::new(alloc);
-    for cell in cells {
-        flags.push(cell.kind.is_primary()).ok()?;
-    }
-    Some(flags)
 }
 
 // No search for each of so many components.

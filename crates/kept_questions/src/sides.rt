@@ -32,12 +32,12 @@ pub(crate) fn check_side(
     let gap = gap_of(alloc, list, times, limit)?;
     let terms = gap.as_slice();
     check_not_below(terms)?;
-    check_pressed(terms, pressure)?;
+    check_pressure(terms, pressure)?;
     Ok(())
 }
 
 // That all numbers are 0 where there is pressure.
-fn check_pressed(terms: &[(u32, i128)], pressure: i128) -> Result<(), Unfit>
+fn check_pressure(terms: &[(u32, i128)], pressure: i128) -> Result<(), Unfit>
     ensures { OnOk result (pos 1 ≤ℤ pressure → (place : ℕ) → coefficient terms.now place ≡ pos 0) }
 {
     if pressure < 1 {

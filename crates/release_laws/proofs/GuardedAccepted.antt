@@ -4,7 +4,7 @@ use Rattle.sdc_base.specs.Steps.{◌>>=◌, map_fault}
 use Rattle.sdc_base.specs.declared.cell.Cell.{Cell}
 use Rattle.sdc_base.specs.declared.system.System.{System}
 use Rattle.attackers.specs.ExtraFaults.{extra_fault}
-use Rattle.attackers.specs.Extras.{hide_cells}
+use Rattle.sdc_base.specs.HiddenSets.{hide_cells}
 use Rattle.attackers.specs.declared.faults.ExtraFault.{ExtraFault}
 use Rattle.cert_check.proofs.Accepted.{tables_good}
 use Rattle.cert_check.proofs.OwnTables.{as_many_texts, own_case, texts_themselves}

@@ -29,7 +29,7 @@ use Rattle.job_lang.specs.declared.job.TableLine.{TableLine}
 use Rattle.linked_tables.specs.BookViews.{BookView}
 use Rattle.linked_tables.specs.BookCells.{number_of}
 use Rattle.office_io.specs.Files.{Files}
-use Rattle.attackers.specs.Extras.{hide_cells}
+use Rattle.sdc_base.specs.HiddenSets.{hide_cells}
 use Rattle.release_writer.specs.ReadingLaws.{AreTexts}
 use Rattle.release_writer.specs.ShownCells.{open_truth}
 use Rattle.job_inputs.proofs.CertificateFiles.{certificate-is}

@@ -4,7 +4,7 @@ use Rattle.std.specs.Prelude.{◌≡◌, ℕ, false, List, length, Option, Ok}
 use Rattle.sdc_base.specs.declared.system.System.{System}
 use Rattle.attackers.specs.Alone.{AreSoles}
 use Rattle.attackers.specs.ExtraFaults.{extra_fault}
-use Rattle.attackers.specs.Extras.{hide_cells}
+use Rattle.sdc_base.specs.HiddenSets.{hide_cells}
 use Rattle.cell_protection.specs.Protections.{IsProtectedWith}
 use Rattle.modular_plan.specs.Methods.{passes_of}
 use Rattle.certificate.specs.declared.certificate.Certificate.{Certificate}

@@ -4,13 +4,13 @@ use Rattle.std.specs.Option.{option_map_or}
 use Rattle.std.proofs.lemmas.List.{get_or-set_other}
 use Rattle.std.proofs.lemmas.Option.{slice_get_cases}
 use Rattle.sdc_base.specs.Kinds.{is_primary, is_free}
-use Rattle.sdc_base.specs.HiddenSets.{is_hidden, IsPermitted}
+use Rattle.sdc_base.specs.HiddenSets.{is_hidden, IsPermitted, show}
 use Rattle.sdc_base.specs.declared.cell.Cell.{Cell}
 use Rattle.sdc_base.specs.declared.cell.Kind.TheVariants.{Free}
 use Rattle.worlds.specs.declared.refuted.Refuted.{Refuted}
 use Rattle.worlds.specs.declared.world.World.{World}
 use Rattle.worlds.proofs.TrueTests.{and_true}
-use Rattle.repair.specs.HidingOrder.{Case, IsOfKind, show}
+use Rattle.repair.specs.HidingOrder.{Case, IsOfKind}
 use Rattle.repair.specs.CellTrials.{IsTried}
 use Rattle.repair.specs.Attempts.{IsTriedSet, is_open_at}
 use Rattle.repair.proofs.Flags.{by_test, one_cell, same_or_other}

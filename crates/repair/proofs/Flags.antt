@@ -9,10 +9,10 @@ use Rattle.sdc_base.specs.Kinds.{is_primary}
 use Rattle.sdc_base.specs.declared.cell.Cell.{Cell}
 use Rattle.sdc_base.specs.declared.cell.Kind.{Kind}
 use Rattle.sdc_base.specs.declared.cell.Kind.TheVariants.{Primary, Free, Fixed}
-use Rattle.sdc_base.specs.HiddenSets.{is_hidden, may_hide, full_set, IsPermitted}
+use Rattle.sdc_base.specs.HiddenSets.{is_hidden, may_hide, full_set, IsPermitted, hide}
 use Rattle.worlds.specs.declared.refuted.Refuted.{Refuted}
-use Rattle.sdc_base.specs.HiddenSets.{MayHide}
-use Rattle.repair.specs.HidingOrder.{IsOfKind, hide, hide_subjects, planned_set}
+use Rattle.sdc_base.specs.HiddenSets.{MayHide, hide}
+use Rattle.repair.specs.HidingOrder.{IsOfKind, hide_subjects, planned_set}
 use Rattle.repair.specs.KeptWorlds.{shown_count}
 
 -- all that is hidden in the one set is hidden in the other

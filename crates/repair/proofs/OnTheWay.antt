@@ -7,14 +7,14 @@ use Rattle.sdc_base.specs.declared.cell.Cell.{Cell}
 use Rattle.sdc_base.specs.declared.cell.Kind.TheVariants.{Free}
 use Rattle.sdc_base.specs.declared.side.Side.{Side}
 use Rattle.sdc_base.specs.declared.system.System.{System}
-use Rattle.sdc_base.specs.HiddenSets.{is_hidden}
+use Rattle.sdc_base.specs.HiddenSets.{is_hidden, show}
 use Rattle.worlds.specs.declared.refuted.Refuted.{Refuted}
 use Rattle.worlds.specs.declared.world.World.{World}
 use Rattle.worlds.specs.ProtectFaults.{asked_of}
 use Rattle.repair.specs.declared.progress.Progress.{Progress}
 use Rattle.repair.specs.declared.task.Task.{Task}
 use Rattle.repair.specs.declared.trial.ReusableTable.{ReusableTable}
-use Rattle.repair.specs.HidingOrder.{Case, IsOfKind, hide_subjects, show}
+use Rattle.repair.specs.HidingOrder.{Case, IsOfKind, hide_subjects}
 use Rattle.repair.specs.KeptWorlds.{IsRepaired}
 use Rattle.repair.specs.LevelQuestions.{IsGiven}
 use Rattle.repair.specs.OnTheWay.{IsOfFirst, IsOfTrial, IsOnWay, AreAnswers}

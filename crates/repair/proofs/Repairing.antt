@@ -12,7 +12,7 @@ use Rattle.sdc_base.specs.declared.cell.Kind.TheVariants.{Primary, Free, Fixed}
 use Rattle.sdc_base.specs.declared.side.Side.{Side}
 use Rattle.sdc_base.specs.declared.system.System.{System}
 use Rattle.sdc_base.specs.Systems.{Numbers}
-use Rattle.sdc_base.specs.HiddenSets.{is_hidden, IsPermitted, full_set}
+use Rattle.sdc_base.specs.HiddenSets.{is_hidden, IsPermitted, full_set, hide}
 use Rattle.sdc_base.specs.Worlds.{Protects}
 use Rattle.worlds.specs.declared.multipliers.Multipliers.{Multipliers}
 use Rattle.worlds.specs.declared.refuted.Refuted.{Refuted}
@@ -24,7 +24,7 @@ use Rattle.worlds.proofs.RefutationLaws.{no_world}
 use Rattle.interval_audit.specs.declared.answer.AskFault.{AskFault}
 use Rattle.interval_audit.specs.declared.answer.AskFault.TheVariants.{Work, Wide, Size, Memory}
 use Rattle.repair.specs.LevelQuestions.{AreGiven, IsGiven, IsCausing, HasCause}
-use Rattle.repair.specs.HidingOrder.{Case, IsOfKind, hide, hide_subjects, breaks, breaks_at, coefficients_for, NoneBreaks, IsCheapest, StandsAt}
+use Rattle.repair.specs.HidingOrder.{Case, IsOfKind, hide_subjects, breaks, breaks_at, coefficients_for, NoneBreaks, IsCheapest, StandsAt}
 use Rattle.repair.specs.Repairs.{cell_and_side, IsJustified, IsInOrder, EachRepair, AreRepairs}
 use Rattle.repair.specs.KeptWorlds.{IsServing, AreServed, AreServedBefore, IsRepaired, IsStopped}
 use Rattle.repair.specs.Stops.{IsQuestion}

@@ -8,10 +8,10 @@ use Rattle.sdc_base.specs.declared.cell.Cell.{Cell}
 use Rattle.sdc_base.specs.declared.cell.Kind.TheVariants.{Primary}
 use Rattle.sdc_base.specs.declared.side.Side.{Side}
 use Rattle.sdc_base.specs.declared.side.Side.TheVariants.{Above, Below}
-use Rattle.sdc_base.specs.HiddenSets.{is_hidden}
+use Rattle.sdc_base.specs.HiddenSets.{is_hidden, hide}
 use Rattle.worlds.specs.declared.refuted.Refuted.{Refuted}
 use Rattle.worlds.specs.ProtectFaults.{asked_of}
-use Rattle.repair.specs.HidingOrder.{IsOfKind, hide, planned_set, hide_subjects}
+use Rattle.repair.specs.HidingOrder.{IsOfKind, planned_set, hide_subjects}
 use Rattle.repair.specs.Laws.{IsAmong, OpenSetHolds, rank, QuestionsAreInOrder}
 use Rattle.repair.proofs.Flags.{same_or_other, hidden_here, hidden_other, hidden_map, hidden_none, length-hidden}
 use Rattle.repair.proofs.Order.{primary_is, asked_primary, asked_from}

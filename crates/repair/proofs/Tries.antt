@@ -11,7 +11,7 @@ use Rattle.sdc_base.specs.declared.cell.Kind.{Kind}
 use Rattle.sdc_base.specs.declared.cell.Kind.TheVariants.{Primary, Free, Fixed}
 use Rattle.sdc_base.specs.declared.side.Side.{Side}
 use Rattle.sdc_base.specs.declared.side.Side.TheVariants.{Above, Below}
-use Rattle.sdc_base.specs.HiddenSets.{is_hidden}
+use Rattle.sdc_base.specs.HiddenSets.{is_hidden, hide, show}
 use Rattle.sdc_base.specs.Worlds.{Protects}
 use Rattle.worlds.specs.declared.refuted.Refuted.{Refuted}
 use Rattle.worlds.specs.ProtectFaults.{asked_of}
@@ -20,7 +20,7 @@ use Rattle.worlds.proofs.ProtectLaws.{both_asked, by_side, start}
 use Rattle.worlds.proofs.RefutationLaws.{no_world}
 use Rattle.interval_audit.specs.declared.answer.AskFault.{AskFault}
 use Rattle.interval_audit.specs.declared.answer.AskFault.TheVariants.{Work, Wide, Size, Memory}
-use Rattle.repair.specs.HidingOrder.{Case, IsOfKind, hide, show, show_all, ProtectsAll}
+use Rattle.repair.specs.HidingOrder.{Case, IsOfKind, show_all, ProtectsAll}
 use Rattle.repair.specs.Needs.{others_hidden, set_when_tried, IsNeed}
 use Rattle.repair.specs.Stops.{Ascend}
 use Rattle.repair.specs.CellTrials.{IsRefuted, IsNeedBelow, IsTried, IsTryStop, TriesStopFor, HasFault}

@@ -15,7 +15,8 @@ use Rattle.interval_audit.specs.WalkLimits.{HasNoWalk}
 use Rattle.repair.specs.declared.stopped.Stopped.{Stopped}
 use Rattle.repair.specs.declared.verdict.Verdict.{Verdict}
 use Rattle.repair.specs.declared.verdict.Verdict.TheVariants.{Protected, Cannot}
-use Rattle.repair.specs.HidingOrder.{Case, hide, hide_subjects}
+use Rattle.repair.specs.HidingOrder.{Case, hide_subjects}
+use Rattle.sdc_base.specs.HiddenSets.{hide}
 use Rattle.repair.specs.OnTheWay.{IsOnWay, AreAnswers}
 use Rattle.repair.specs.LevelQuestions.{AreGiven, HasCause}
 use Rattle.repair.specs.Needs.{IsNeed}

@@ -1,15 +1,15 @@
 -- Which cells are open to be hidden, and in which order questions are asked (own).
-use Rattle.std.specs.Prelude.{◌≡◌, ℕ, ◌<◌, ◌≤◌, ◌⊎◌, ◌&&◌, not, Bool, true, false, List, [], ◌∷◌, map, fold, take, All, slice_get, slice_set, slice_index, Some, ℤ, pos}
+use Rattle.std.specs.Prelude.{◌≡◌, ℕ, ◌<◌, ◌≤◌, ◌⊎◌, ◌&&◌, not, Bool, true, false, List, [], ◌∷◌, fold, take, All, slice_get, slice_index, Some, ℤ, pos}
 use Rattle.std.specs.Ordering.{int_eq}
 use Rattle.std.specs.Option.{option_map_or}
-use Rattle.sdc_base.specs.Kinds.{is_primary, is_free}
+use Rattle.sdc_base.specs.Kinds.{is_free}
 use Rattle.sdc_base.specs.declared.cell.Cell.{Cell}
 use Rattle.sdc_base.specs.declared.cell.Kind.{Kind}
 use Rattle.sdc_base.specs.declared.side.Side.{Side}
 use Rattle.sdc_base.specs.declared.system.System.{System}
 use Rattle.sdc_base.specs.Systems.{Numbers}
 use Rattle.sdc_base.specs.Forms.{coefficient}
-use Rattle.sdc_base.specs.HiddenSets.{is_hidden}
+use Rattle.sdc_base.specs.HiddenSets.{is_hidden, primary_set, hide, show, hide_cells}
 use Rattle.sdc_base.specs.Worlds.{Protects}
 use Rattle.cost_rule.specs.declared.kind.CostKind.{CostKind}
 use Rattle.cost_rule.specs.Costs.{price_of}
@@ -42,17 +42,9 @@ pub record IsOfKind (cells : List Cell) (number : ℕ) (kind : Kind) : Type 0 wh
 
 -- ---- hidden sets
 
--- the set with this cell hidden
-abbrev pub hide : List Bool → ℕ → List Bool
-hide flags cell = slice_set flags cell true
-
--- the set with this cell shown
-abbrev pub show : List Bool → ℕ → List Bool
-show flags cell = slice_set flags cell false
-
 -- the set with which repairing begins: the primary cells and the corners
 abbrev pub planned_set : List Cell → List ℕ → List Bool
-planned_set cells corners = fold hide (map (λ cell. is_primary cell.kind) cells) corners
+planned_set cells corners = hide_cells (primary_set cells) corners
 
 -- the set with the subjects of repairs hidden too
 abbrev pub hide_subjects : List Bool → List Refuted → List Bool

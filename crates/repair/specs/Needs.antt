@@ -3,11 +3,11 @@ use Rattle.std.specs.Prelude.{ℕ, ◌+◌, ◌&&◌, not, Bool, false, List, []
 use Rattle.sdc_base.specs.Kinds.{is_primary}
 use Rattle.sdc_base.specs.declared.cell.Cell.{Cell}
 use Rattle.sdc_base.specs.declared.cell.Kind.TheVariants.{Primary}
-use Rattle.sdc_base.specs.HiddenSets.{is_hidden}
+use Rattle.sdc_base.specs.HiddenSets.{is_hidden, show}
 use Rattle.worlds.specs.declared.refuted.Refuted.{Refuted}
 use Rattle.worlds.specs.RefutationFaults.{IsGivenRefutation}
 use Rattle.repair.specs.LevelQuestions.{AreGiven}
-use Rattle.repair.specs.HidingOrder.{Case, IsOfKind, show, IsFirstUnprotected}
+use Rattle.repair.specs.HidingOrder.{Case, IsOfKind, IsFirstUnprotected}
 use Rattle.repair.specs.Repairs.{cell_and_side}
 
 -- the hidden cells that aren't primary, from this number on

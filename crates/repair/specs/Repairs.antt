@@ -3,11 +3,11 @@ use Rattle.std.specs.Prelude.{◌≡◌, ◌≢◌, ℕ, ◌≤◌, Bool, false,
 use Rattle.sdc_base.specs.declared.cell.Cell.{Cell}
 use Rattle.sdc_base.specs.declared.cell.Kind.TheVariants.{Primary, Free}
 use Rattle.sdc_base.specs.declared.side.Side.{Side}
-use Rattle.sdc_base.specs.HiddenSets.{is_hidden}
+use Rattle.sdc_base.specs.HiddenSets.{is_hidden, hide}
 use Rattle.worlds.specs.declared.refuted.Refuted.{Refuted}
 use Rattle.worlds.specs.RefutationFaults.{IsGivenRefutation}
 use Rattle.repair.specs.LevelQuestions.{AreGiven}
-use Rattle.repair.specs.HidingOrder.{Case, IsOfKind, hide, StandsAt, ProtectsBefore, coefficients_for, IsCheapest}
+use Rattle.repair.specs.HidingOrder.{Case, IsOfKind, StandsAt, ProtectsBefore, coefficients_for, IsCheapest}
 
 -- what a repair or a need refutes: its cell, to its side
 abbrev pub cell_and_side : Refuted → ℕ × Side

@@ -23,7 +23,7 @@ mod verdict;
 
 pub use cheapest::find_cheapest;
 pub use laws::{open_set_holds, questions_are_in_order, stopped_are_given};
-pub use planned::{hide_all, planned_hidden};
+pub use planned::{hide_subjects, planned_hidden};
 pub use prices::list_prices;
 pub use protecting::protect;
 pub use questions::questions_of;

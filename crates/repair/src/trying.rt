@@ -1,7 +1,8 @@
-ghost use Rattle.std.specs.Prelude.{◌≡◌, ◌<◌, ◌++◌, ◌∷◌, [], ℕ, List, true, length, IfErr, OnOk};
+ghost use Rattle.std.specs.Prelude.{◌≡◌, ◌++◌, ◌∷◌, [], ℕ, List, true, IfErr, OnOk};
 ghost use Rattle.sdc_base.specs.HiddenSets as hidden_set;
 ghost use Rattle.sdc_base.specs.declared.cell.Kind.TheVariants.{Free as FreeKind};
-ghost use Rattle.repair.specs.HidingOrder.{hide, IsOfKind};
+ghost use Rattle.repair.specs.HidingOrder.{IsOfKind};
+ghost use Rattle.sdc_base.specs.HiddenSets.{hide};
 ghost use Rattle.repair.specs.Tasks.{case_of};
 ghost use Rattle.repair.specs.CellTrials.{TriesStopFor};
 ghost use Rattle.repair.specs.Attempts.{IsServedSet, IsUntried, IsReadyToTry, is_open_at, IsCellTrial, IsCellTrialStop, HasTriedAll, KeepsAnswers};
@@ -97,7 +98,7 @@ fn try_one(
     let Ok(()) = tried.shown.push(cell) else {
         return Err(AskFault::Memory);
     };
-    progress.hidden.flags.set(cell as usize, false);
+    progress.hidden.show(cell);
     let attempt = Attempt {
         task,
         cell,
@@ -127,7 +128,6 @@ fn put_back(
     progress: &mut Progress,
     tried: &mut Findings,
 ) -> Result<(), AskFault>
-    requires { cell < length progress.old.hidden.flags }
     ensures flags { progress.new.hidden.flags ≡ hide progress.old.hidden.flags cell }
     ensures worlds { progress.new.worlds ≡ progress.old.worlds }
     ensures repairs { progress.new.repairs ≡ progress.old.repairs }
@@ -138,7 +138,7 @@ fn put_back(
         → tried.new.shown ≡ earlier) }
     ensures err { IfErr result (λ fault. fault ≡ AskFault.Memory) }
 {
-    progress.hidden.flags.set(cell as usize, true);
+    progress.hidden.hide(cell);
     tried.shown.pop();
     let Ok(()) = tried.needs.push(need) else {
         return Err(AskFault::Memory);

@@ -18,7 +18,7 @@ use crate::reader::Reader;
 use crate::reading::reader_cells;
 use cell_intervals::{EndSearch, Ratio, UpperEnd, interval_from};
 use interval_audit::{Answer, AskFault, SignedSystem, TwoEnds, signed_interval};
-use sdc_base::{Cell, Hidden, Items, Memory, Side, System};
+use sdc_base::{Cell, Hidden, Items, Side, System};
 use std::alloc::Global;
 use worlds::reaches;
 
@@ -68,7 +68,7 @@ pub fn audit_of(
     ensures signed { (signs : List Bool) → AreSigns system.now.relations signs → IfErr result HasNoWalk }
 {
     let known = reader_cells(alloc, system, cells, values, base)?;
-    let hidden = hide_all(alloc, system.cells)?;
+    let hidden = Hidden::of_all(alloc, system.cells)?;
     let signed = SignedSystem::of(alloc, system)?;
     let reader = Reader {
         system: &signed,
@@ -83,16 +83,6 @@ pub fn audit_of(
     }
     let audited = audit_cells(alloc, &reader, limit)?;
     Ok(audited)
-}
-
-// The set in which every cell is hidden.
-fn hide_all(alloc: Global, cells: u32) -> Result<Hidden, Memory>
-    ensures { IfOk result (λ hidden. hidden.flags ≡ readers.all_hidden cells) }
-{
-    let flags = Vec::from_elem(alloc, true, cells as usize)?;
-    Ok(Hidden {
-        flags: Items::new(flags),
-    })
 }
 
 // What the release leaves open of each primary cell by searches that are kept from cell to cell; none where there are no

@@ -1,8 +1,9 @@
-ghost use Rattle.std.specs.Prelude.{◌≡◌, ◌+◌, ◌∷◌, [], ◌<◌, ◌≤◌, ◌^◌, ℕ, length, drop, Err, IfOk, IfErr};
-ghost use Rattle.worlds.specs.ProtectFaults.{line_number, primary_shown, fixed_hidden, asked_of, line_fault, lines_fault, fault_from, protect_fault};
+ghost use Rattle.std.specs.Prelude.{◌≡◌, ◌+◌, ◌∷◌, [], ◌<◌, ◌≤◌, ℕ, length, drop, Err, IfOk, IfErr};
+ghost use Rattle.worlds.specs.ProtectFaults.{line_number, asked_of, line_fault, lines_fault, fault_from, protect_fault};
 
 use crate::faults::ProtectFault;
 use crate::pattern::Pattern;
+use crate::permitted::{hidden_fixed, shown_primary};
 use crate::world::World;
 use crate::world_check::{first_world_fault, reaches};
 use sdc_base::{Cell, Side};
@@ -17,44 +18,17 @@ pub(crate) fn check_protection(
     ensures { result ≡ protect_fault pattern.now.system.now pattern.now.cells.now pattern.now.hidden.now.flags
         worlds.now }
 {
-    if let Some(number) = shown_primary(pattern) {
+    let flags = pattern.hidden.flags.as_slice();
+    if let Some(number) = shown_primary(pattern.cells, flags) {
         return Err(ProtectFault::PrimaryShown(number));
     }
-    if let Some(number) = hidden_fixed(pattern) {
+    if let Some(number) = hidden_fixed(pattern.cells, flags) {
         return Err(ProtectFault::FixedHidden(number));
     }
     if worlds.len() != count_asked(pattern) {
         return Err(ProtectFault::Count);
     }
     check_lines(pattern, worlds, scratch)
-}
-
-// The first primary cell that is shown.
-fn shown_primary(pattern: &Pattern<'_>) -> Option<u32>
-    ensures { result ≡ primary_shown pattern.now.hidden.now.flags 0 pattern.now.cells.now }
-{
-    let cells = pattern.cells;
-    let flags = pattern.hidden.flags.as_slice();
-    for (number, cell) in cells.iter().enumerate() {
-        if cell.kind.is_primary() && !flags[number] {
-            return Some(number as u32);
-        }
-    }
-    None
-}
-
-// The first fixed cell that is hidden.
-fn hidden_fixed(pattern: &Pattern<'_>) -> Option<u32>
-    ensures { result ≡ fixed_hidden pattern.now.hidden.now.flags 0 pattern.now.cells.now }
-{
-    let cells = pattern.cells;
-    let flags = pattern.hidden.flags.as_slice();
-    for (number, cell) in cells.iter().enumerate() {
-        if cell.kind.is_fixed() && flags[number] {
-            return Some(number as u32);
-        }
-    }
-    None
 }
 
 // How many worlds there are to be: two for each primary cell.

@@ -1,5 +1,5 @@
 use Rattle.std.proofs.Common.{◌∙◌, List, Bool, length, length-set, ap, false}
-use Rattle.repair.specs.HidingOrder.{show}
+use Rattle.sdc_base.specs.HiddenSets.{show}
 use Rattle.attackers.proofs.Knowing.{length-without}
 use Rattle.attackers.proofs.accepting.check_need.Goals as goal
 

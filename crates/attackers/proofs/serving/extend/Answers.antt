@@ -1,8 +1,8 @@
 use Rattle.std.proofs.Common.{◌≡◌, ◌∙◌, ◌<◌, ℕ, List, Bool, Option, IfNone, IfSome, true, false, length, length-set, ap, sym, subst, take, arith}
 use Rattle.std.proofs.lemmas.Option.{slice_get_within}
-use Rattle.sdc_base.specs.HiddenSets.{IsPermitted}
+use Rattle.sdc_base.specs.HiddenSets.{IsPermitted, hide}
 use Rattle.certificate.specs.declared.certificate.WorldLine.{WorldLine}
-use Rattle.repair.specs.HidingOrder.{hide, breaks_at, coefficients_for, IsCheapest}
+use Rattle.repair.specs.HidingOrder.{breaks_at, coefficients_for, IsCheapest}
 use Rattle.repair.specs.KeptWorlds.{shown_count}
 use Rattle.repair.proofs.Flags.{free_may, permitted_more, within_hide, fewer_shown}
 use Rattle.certificate.specs.declared.extra.ExtraNeed.{ExtraNeed}
@@ -27,15 +27,6 @@ returns-in-None-clause-ok c =
     cannot_by (case_of task) task.soles.now task.attacks.now flags c.args.place c.args.attack c.args.multipliers task.fits.one_each c.requires.ready.each c.requires.ready.permitted
     (attack_at task.cells.now task.soles.now task.attacks.now c.args.place c.args.attack task.fits.are_attacks c.requires.refuted.stands) c.requires.refuted
     (subst (λ (f : List Bool). (n : ℕ) → breaks_at task.cells.now (with_known task.soles.now c.args.attack.row f) (coefficients_for task.system.now (target_of c.args.attack) c.args.multipliers) n ≡ false) c.as_slice-flags.ensures none)
-
-pub extend-requires : goal.extend-requires
-extend-requires c =
-    let task = c.args.task.now in
-    let long : length c.args.progress.now.hidden.flags ≡ length task.cells.now = omega (arith, c.requires.ready.each, task.fits.one_each) in
-    let cheapest : IsCheapest task.cells.now task.prices.now (with_known task.soles.now c.args.attack.row c.as_slice-flags.result.now) (coefficients_for task.system.now (target_of c.args.attack) c.args.multipliers) c.in-Some.subject =
-    subst (λ (o : Option ℕ). IfSome o (IsCheapest task.cells.now task.prices.now (with_known task.soles.now c.args.attack.row c.as_slice-flags.result.now) (coefficients_for task.system.now (target_of c.args.attack) c.args.multipliers))) c.in-Some.is c.in_ok-found.ensures.cheapest in
-    let says : SubjectSays task.cells.now c.as_slice-flags.result.now c.in-Some.subject = subject_says task.cells.now task.soles.now c.args.attack.row task.prices.now c.as_slice-flags.result.now (coefficients_for task.system.now (target_of c.args.attack) c.args.multipliers) c.in-Some.subject (ap (λ (f : List Bool). length f) c.as_slice-flags.ensures ∙ long) cheapest in
-    omega (arith, long, slice_get_within task.cells.now c.in-Some.subject says.is_free.cell says.is_free.found)
 
 pub returns-in_ok-extend-in-Some-clause-ready : goal.returns-in_ok-extend-in-Some-clause-ready
 returns-in_ok-extend-in-Some-clause-ready c =

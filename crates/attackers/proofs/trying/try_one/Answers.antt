@@ -1,9 +1,8 @@
 use Rattle.std.proofs.Common.{◌≡◌, ◌<◌, ◌+◌, ◌++◌, ◌∷◌, [], ◌∙◌, not, true, ℕ, List, Bool, false, length, length-set, ap, sym, subst, arith}
 use Rattle.std.proofs.lemmas.Result.{err_from_is_err_and}
-use Rattle.sdc_base.specs.HiddenSets.{is_hidden, IsPermitted}
+use Rattle.sdc_base.specs.HiddenSets.{is_hidden, IsPermitted, hide, show}
 use Rattle.worlds.proofs.TrueTests.{on_ok, and_true, ok_more}
 use Rattle.certificate.specs.declared.certificate.WorldLine.{WorldLine}
-use Rattle.repair.specs.HidingOrder.{hide, show}
 use Rattle.repair.proofs.Tries.{hidden_again, on_ok_two}
 use Rattle.certificate.specs.declared.extra.ExtraNeed.{ExtraNeed}
 use Rattle.attackers.specs.declared.trial.Trial.TheVariants as trial
@@ -17,7 +16,7 @@ invariant_of-attempt c =
     let task = c.args.task.now in
     let flags : List Bool = c.args.progress.now.hidden.flags in
     record {
-      set = subst (λ (f : List Bool). IsReadySet task f) (sym c.set.ensures) (record {
+      set = subst (λ (f : List Bool). IsReadySet task f) (sym c.show.ensures) (record {
         each = length-set flags c.args.cell false ∙ c.requires.each;
         permitted = permitted_less task.cells.now c.args.first.now.flags flags c.args.cell c.requires.extra c.requires.first c.requires.permitted;
       });
@@ -30,7 +29,7 @@ returns-in_err-trial-clause-err c =
     let flags : List Bool = c.args.progress.now.hidden.flags in
     let inside : c.args.cell < length flags = omega (arith, c.requires.each, task.fits.one_each, c.requires.inside) in
     let has : HasFault (case_of task) task.soles.now task.attacks.now (show flags c.args.cell) task.limit c.in_err-trial.field-0.0.fault c.in_err-trial.field-0.0.row =
-    subst (λ (f : List Bool). HasFault (case_of task) task.soles.now task.attacks.now f task.limit c.in_err-trial.field-0.0.fault c.in_err-trial.field-0.0.row) c.set.ensures c.in_err-trial.ensures.err in
+    subst (λ (f : List Bool). HasFault (case_of task) task.soles.now task.attacks.now f task.limit c.in_err-trial.field-0.0.fault c.in_err-trial.field-0.0.row) c.show.ensures c.in_err-trial.ensures.err in
     let p = err_from_is_err_and c.from_residual.result c.from_residual.ensures.1 in
     rw (p.1, p.2) (λ larger before.
     tries_stop task first larger c.in_err-trial.field-0.0.fault c.in_err-trial.field-0.0.row c.push.new.self
@@ -42,7 +41,7 @@ returns-in-Renewed-clause-permitted c =
     let task = c.args.task.now in
     let flags : List Bool = c.args.progress.now.hidden.flags in
     let less : IsPermitted task.cells.now (show flags c.args.cell) = permitted_less task.cells.now c.args.first.now.flags flags c.args.cell c.requires.extra c.requires.first c.requires.permitted in
-    on_ok (IsPermitted task.cells.now c.take_new.new.progress.hidden.flags) c.take_new.result (subst (IsPermitted task.cells.now) (sym (c.take_new.ensures.flags ∙ c.set.ensures)) less)
+    on_ok (IsPermitted task.cells.now c.take_new.new.progress.hidden.flags) c.take_new.result (subst (IsPermitted task.cells.now) (sym (c.take_new.ensures.flags ∙ c.show.ensures)) less)
 
 pub returns-in-Renewed-clause-ok : goal.returns-in-Renewed-clause-ok
 returns-in-Renewed-clause-ok c =
@@ -50,13 +49,13 @@ returns-in-Renewed-clause-ok c =
     let first : List Bool = c.args.first.now.flags in
     let flags : List Bool = c.args.progress.now.hidden.flags in
     let inside : c.args.cell < length flags = omega (arith, c.requires.each, task.fits.one_each, c.requires.inside) in
-    let told : IsTrial task c.set.new.self c.args.cell c.as_slice.result.now (trial.Renewed c.in-Renewed.news) = subst (IsTrial task c.set.new.self c.args.cell c.as_slice.result.now) c.in-Renewed.is c.in_ok-trial.ensures.ok in
+    let told : IsTrial task c.show.new.self.flags c.args.cell c.as_slice.result.now (trial.Renewed c.in-Renewed.news) = subst (IsTrial task c.show.new.self.flags c.args.cell c.as_slice.result.now) c.in-Renewed.is c.in_ok-trial.ensures.ok in
     ok_more c.take_new.result (λ guards larger before.
     let held : HoldGuards (case_of task) task.soles.now (show flags c.args.cell) task.attacks.now c.take_new.new.progress.guards =
     subst (λ (g : List WorldLine). HoldGuards (case_of task) task.soles.now (show flags c.args.cell) task.attacks.now g) (sym guards)
-    (subst (λ (f : List Bool). HoldGuards (case_of task) task.soles.now f task.attacks.now (renewed_guards c.args.cell c.args.progress.now.guards c.in-Renewed.news)) c.set.ensures
-    (subst (λ (g : List WorldLine). HoldGuards (case_of task) task.soles.now c.set.new.self task.attacks.now (renewed_guards c.args.cell g c.in-Renewed.news)) c.as_slice.ensures told)) in
-    subst (λ (f : List Bool). IsTried (case_of task) task.soles.now task.attacks.now first larger (c.args.cell + 1) f c.take_new.new.progress.guards c.args.found.now.needs c.push.new.self) (sym (c.take_new.ensures.flags ∙ c.set.ensures))
+    (subst (λ (f : List Bool). HoldGuards (case_of task) task.soles.now f task.attacks.now (renewed_guards c.args.cell c.args.progress.now.guards c.in-Renewed.news)) c.show.ensures
+    (subst (λ (g : List WorldLine). HoldGuards (case_of task) task.soles.now c.show.new.self.flags task.attacks.now (renewed_guards c.args.cell g c.in-Renewed.news)) c.as_slice.ensures told)) in
+    subst (λ (f : List Bool). IsTried (case_of task) task.soles.now task.attacks.now first larger (c.args.cell + 1) f c.take_new.new.progress.guards c.args.found.now.needs c.push.new.self) (sym (c.take_new.ensures.flags ∙ c.show.ensures))
     (subst (λ (l : List ℕ). IsTried (case_of task) task.soles.now task.attacks.now first larger (c.args.cell + 1) (show flags c.args.cell) c.take_new.new.progress.guards c.args.found.now.needs l) (sym c.in-Ok.ensures.ok)
     (one_dropped (case_of task) task.soles.now task.attacks.now first larger c.args.cell flags c.args.progress.now.guards c.take_new.new.progress.guards c.args.found.now.needs c.args.found.now.dropped inside c.requires.extra held before))) c.take_new.ensures.guards
 
@@ -66,7 +65,7 @@ returns-in-Refused-clause-permitted c =
     let flags : List Bool = c.args.progress.now.hidden.flags in
     let inside : c.args.cell < length flags = omega (arith, c.requires.each, task.fits.one_each, c.requires.inside) in
     let hidden : is_hidden flags c.args.cell ≡ true = (and_true (is_hidden flags c.args.cell) (not (is_hidden c.args.first.now.flags c.args.cell)) c.requires.extra).0 in
-    let same : c.put_back.new.progress.hidden.flags ≡ flags = c.put_back.ensures.flags ∙ ap (λ (f : List Bool). hide f c.args.cell) c.set.ensures ∙ hidden_again flags c.args.cell inside hidden in
+    let same : c.put_back.new.progress.hidden.flags ≡ flags = c.put_back.ensures.flags ∙ ap (λ (f : List Bool). hide f c.args.cell) c.show.ensures ∙ hidden_again flags c.args.cell inside hidden in
     on_ok (IsPermitted task.cells.now c.put_back.new.progress.hidden.flags) c.put_back.result (subst (IsPermitted task.cells.now) (sym same) c.requires.permitted)
 
 pub returns-in-Refused-clause-ok : goal.returns-in-Refused-clause-ok
@@ -76,9 +75,9 @@ returns-in-Refused-clause-ok c =
     let flags : List Bool = c.args.progress.now.hidden.flags in
     let inside : c.args.cell < length flags = omega (arith, c.requires.each, task.fits.one_each, c.requires.inside) in
     let hidden : is_hidden flags c.args.cell ≡ true = (and_true (is_hidden flags c.args.cell) (not (is_hidden first c.args.cell)) c.requires.extra).0 in
-    let same : c.put_back.new.progress.hidden.flags ≡ flags = c.put_back.ensures.flags ∙ ap (λ (f : List Bool). hide f c.args.cell) c.set.ensures ∙ hidden_again flags c.args.cell inside hidden in
-    let told : IsTrial task c.set.new.self c.args.cell c.as_slice.result.now (trial.Refused c.in-Refused.need) = subst (IsTrial task c.set.new.self c.args.cell c.as_slice.result.now) c.in-Refused.is c.in_ok-trial.ensures.ok in
-    let refuted : IsNeedFor (case_of task) task.soles.now task.attacks.now (show flags c.args.cell) c.in-Refused.need = subst (λ (f : List Bool). IsNeedFor (case_of task) task.soles.now task.attacks.now f c.in-Refused.need) c.set.ensures told.1 in
+    let same : c.put_back.new.progress.hidden.flags ≡ flags = c.put_back.ensures.flags ∙ ap (λ (f : List Bool). hide f c.args.cell) c.show.ensures ∙ hidden_again flags c.args.cell inside hidden in
+    let told : IsTrial task c.show.new.self.flags c.args.cell c.as_slice.result.now (trial.Refused c.in-Refused.need) = subst (IsTrial task c.show.new.self.flags c.args.cell c.as_slice.result.now) c.in-Refused.is c.in_ok-trial.ensures.ok in
+    let refuted : IsNeedFor (case_of task) task.soles.now task.attacks.now (show flags c.args.cell) c.in-Refused.need = subst (λ (f : List Bool). IsNeedFor (case_of task) task.soles.now task.attacks.now f c.in-Refused.need) c.show.ensures told.1 in
     on_ok_two c.put_back.result c.put_back.ensures.needs c.put_back.ensures.dropped (λ needs dropped larger before.
     let back : c.put_back.new.found.dropped ≡ c.args.found.now.dropped = dropped c.args.found.now.dropped c.args.cell c.in-Ok.ensures.ok in
     subst (λ (f : List Bool). IsTried (case_of task) task.soles.now task.attacks.now first larger (c.args.cell + 1) f c.put_back.new.progress.guards c.put_back.new.found.needs c.put_back.new.found.dropped) (sym same)

@@ -5,7 +5,8 @@ use Rattle.std.proofs.lemmas.Result.{err_from_is_err_and}
 use Rattle.sdc_base.specs.Answers.{Fails}
 use Rattle.sdc_base.specs.Steps.{or_fault}
 use Rattle.plain_text.specs.Stops.{why_of}
-use Rattle.cell_listing.specs.IntervalFiles.{is_feed, range_in, ranges_read}
+use Rattle.sdc_base.specs.Lines.{is_line_feed}
+use Rattle.cell_listing.specs.IntervalFiles.{range_in, ranges_read}
 use Rattle.cell_listing.specs.declared.cell_range.CellRange.{CellRange}
 use Rattle.cell_listing.proofs.IntervalLines.{above_zero, is_zero, line_next, line_open, line_stops, lines_left, lines_over, on_with}
 use Rattle.cell_listing.proofs.interval_file.ranges_in.Goals as goal
@@ -16,7 +17,7 @@ cells-preserved c =
     let i : ℕ = c.cells.cell-index in
     let number : ℕ = c.cells.number in
     let text : List ℕ = c.cells.rest.now in
-    let ended : list_any is_feed text ≡ true = sym c.has_line.ensures ∙ c.if-not-has_line.false in
+    let ended : list_any is_line_feed text ≡ true = sym c.has_line.ensures ∙ c.if-not-has_line.false in
     let said = ap (λ (line : List ℕ). or_fault number (range_in (get_or hidden i 0) line)) (sym c.cut_at.ensures.front) ∙ c.in_ok-range.ensures in
     record {
       number = omega (arith, c.cells.invariant.number);
@@ -45,8 +46,8 @@ returns-in_err-range c =
     let i : ℕ = c.cells.cell-index in
     let number : ℕ = c.cells.number in
     let text : List ℕ = c.cells.rest.now in
-    let ended : list_any is_feed text ≡ true = sym c.has_line.ensures ∙ c.if-not-has_line.false in
-    let said : Fails (why_of e) (or_fault number (range_in (get_or hidden i 0) (before_first is_feed text))) =
+    let ended : list_any is_line_feed text ≡ true = sym c.has_line.ensures ∙ c.if-not-has_line.false in
+    let said : Fails (why_of e) (or_fault number (range_in (get_or hidden i 0) (before_first is_line_feed text))) =
     subst (λ (line : List ℕ). Fails (why_of e) (or_fault number (range_in (get_or hidden i 0) line))) c.cut_at.ensures.front c.in_err-range.ensures in
     let all : on_with c.cells.ranges (ranges_read (get_or hidden i 0 ∷ drop (i + 1) hidden) text number) ≡ ranges_read hidden c.args.lines.now 2 =
     ap (λ (cells : List ℕ). on_with c.cells.ranges (ranges_read cells text number)) (sym (drop_more hidden i 0 c.cells-test.true)) ∙ c.cells.invariant.read in

@@ -1,7 +1,7 @@
 use Rattle.std.proofs.Common.{◌≡◌, Bool, List, Ok, refl, ap, sym, subst, ◌∙◌, All}
 use Rattle.std.proofs.lemmas.Result.{err_from_is_err_and}
 use Rattle.attackers.specs.ExtraFaults.{extra_fault as first_extra_fault, extra_fault_of}
-use Rattle.attackers.specs.Extras.{hide_cells}
+use Rattle.sdc_base.specs.HiddenSets.{hide_cells}
 use Rattle.repair.specs.HidingOrder.{protected_case}
 use Rattle.sdc_base.specs.Answers.{Fails}
 use Rattle.cert_check.proofs.OwnTables.{own_case}

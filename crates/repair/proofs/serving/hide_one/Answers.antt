@@ -1,12 +1,12 @@
 use Rattle.std.proofs.Common.{◌<◌, ◌++◌, ◌∷◌, [], ℕ, ◌∙◌, ap, refl, sym, subst, length, length-set, true, List, Bool, arith, rules}
-use Rattle.sdc_base.specs.HiddenSets.{IsPermitted}
+use Rattle.sdc_base.specs.HiddenSets.{IsPermitted, hide}
 use Rattle.sdc_base.specs.declared.side.Side.{Side}
 use Rattle.worlds.specs.ProtectFaults.{asked_of}
 use Rattle.worlds.specs.declared.world.World.{World}
 use Rattle.repair.specs.OnTheWay.{IsOfFirst, AreAnswers}
 use Rattle.repair.proofs.OnTheWay.{answers_wider, first_more}
 use Rattle.worlds.specs.declared.refuted.Refuted.{Refuted}
-use Rattle.repair.specs.HidingOrder.{Case, protected_case, hide, coefficients_for}
+use Rattle.repair.specs.HidingOrder.{Case, protected_case, coefficients_for}
 use Rattle.repair.specs.KeptWorlds.{AreServedBefore, IsRepaired, shown_count}
 use Rattle.repair.proofs.Flags.{free_may, permitted_more, within_hide, fewer_shown}
 use Rattle.repair.proofs.Growing.{served_more}
@@ -16,9 +16,6 @@ use Rattle.repair.proofs.serving.hide_one.Goals as goal
 
 pub subject_of-subject-requires-clause-asked : goal.subject_of-subject-requires-clause-asked
 subject_of-subject-requires-clause-asked c = omega (arith, c.args.task.now.fits.one_each, asked_inside c.args.task.now.cells.now c.args.place c.args.asked c.requires.stopped.stands)
-
-pub repair-requires : goal.repair-requires
-repair-requires c = omega (arith, c.args.task.now.fits.one_each, c.requires.ready.each, cheapest_inside _ _ _ _ _ c.in-Some.ensures.cheapest)
 
 pub returns-in-None-clause-ok : goal.returns-in-None-clause-ok
 returns-in-None-clause-ok c =

@@ -1,6 +1,0 @@
-use Rattle.std.proofs.Common.{◌≡◌, take}
-use Rattle.repair.specs.HidingOrder.{hide_subjects}
-use Rattle.cell_listing.proofs.hidden_cells.mark_subjects.Given as goal
-
-abbrev pub invariant-repairs : goal.invariant-repairs
-invariant-repairs l = l.flags ≡ hide_subjects l.fn.flags (take l.repair-index l.repairs)
