@@ -1,6 +1,6 @@
 -- What a certificate says of cells, by a flag for each (own).
 use Rattle.std.specs.Prelude.{◌≡◌, ℕ, ◌||◌, Bool, false, List, [], Option, Some, replicate, if◌then◌else◌}
-use Rattle.sdc_base.specs.HiddenSets.{is_hidden}
+use Rattle.sdc_base.specs.HiddenSets.{is_hidden, hide_cells}
 use Rattle.sdc_base.specs.Kinds.{is_primary}
 use Rattle.sdc_base.specs.Trails.{corners_of}
 use Rattle.sdc_base.specs.declared.cell.Kind.{Kind}

@@ -13,11 +13,11 @@ use Rattle.certificate.specs.LineReadings.{hidden_of}
 use Rattle.certificate.specs.Certificates.{is_next, item_at, items_from}
 use Rattle.certificate.specs.Spelling.{FitsIn32Bits, IsWorldSpellable, IsWorldWithinTypes}
 use Rattle.certificate.specs.ExtraReadings.{contributors_line, heading_at, cells_at, need_of, guard_of, extra_of}
-use Rattle.certificate.specs.ExtraTexts.{need_arguments, guard_arguments, extra_text, IsExtraSpellable, IsExtraWithinTypes, IsNeedSpellable, IsNeedWithinTypes, IsExtraReadBack}
+use Rattle.certificate.specs.ExtraTexts.{need_arguments, extra_text, IsExtraSpellable, IsExtraWithinTypes, IsNeedSpellable, IsNeedWithinTypes, IsExtraReadBack}
 use Rattle.certificate.proofs.ClearLaws.{clear_word, clear_numbers, clear_world}
 use Rattle.certificate.proofs.EntryLaws.{world_again}
 use Rattle.certificate.proofs.ExtraEntries.{need_again, clear_need}
-use Rattle.certificate.proofs.ExtraLineTexts.{guard_lines, need_lines, cells_line, cells_lines, text_cut}
+use Rattle.certificate.proofs.ExtraLineTexts.{guard_lines, need_lines, cells_line, cells_lines, text_cut, guard_arguments}
 use Rattle.certificate.proofs.ExtraSteps.{heading_again}
 use Rattle.certificate.proofs.ItemLaws.{AreApart, item_at_again, items_again, past_lines, is_by_word, longer}
 use Rattle.certificate.proofs.LineLaws.{hidden_again}

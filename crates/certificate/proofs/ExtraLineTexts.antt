@@ -7,12 +7,18 @@ use Rattle.certificate.specs.declared.version.Version.TheVariants.{Two}
 use Rattle.certificate.specs.Pieces.{pieces}
 use Rattle.certificate.specs.Spelling.{FitsIn32Bits}
 use Rattle.certificate.specs.ExtraReadings.{contributors_line}
-use Rattle.certificate.specs.ExtraTexts.{cells_tokens, need_arguments, need_tokens, guard_arguments, guard_tokens, extra_tokens, extra_text, IsExtraSpellable, IsExtraWithinTypes}
+use Rattle.certificate.specs.ExtraTexts.{cells_tokens, need_arguments, need_tokens, guard_tokens, extra_tokens, extra_text, IsExtraSpellable, IsExtraWithinTypes}
 use Rattle.certificate.proofs.ClearLaws.{clear_word, clear_numbers, clear_world}
 use Rattle.certificate.proofs.ExtraEntries.{clear_need}
 use Rattle.certificate.proofs.ItemLaws.{line_by}
 use Rattle.certificate.proofs.PieceLaws.{pieces_lines, lines_again}
 use Rattle.certificate.proofs.TextLines.{joined, IsClear, moved, moved-by, all-append, all-map, both_hold, each_holds, end_lines}
+use Rattle.certificate.specs.declared.certificate.WorldLine.{WorldLine}
+use Rattle.certificate.specs.Texts.{world_arguments}
+
+-- what a complete table against contributors says: as in the certificate's second version, whatever is hidden
+abbrev pub guard_arguments : WorldLine → List (List ℕ)
+guard_arguments line = world_arguments Two [] line
 
 -- the complete tables, and what stands behind them
 abbrev pub guard_lines : Extra → List (List ℕ)

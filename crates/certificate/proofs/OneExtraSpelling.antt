@@ -14,10 +14,10 @@ use Rattle.certificate.specs.LineReadings.{hidden_of}
 use Rattle.certificate.specs.Certificates.{is_next, item_at, items_from, end_at}
 use Rattle.certificate.specs.Spelling.{FitsIn32Bits, IsWorldSpellable, IsWorldWithinTypes}
 use Rattle.certificate.specs.ExtraReadings.{contributors_line, heading_at, cells_at, need_of, guard_of, extra_of}
-use Rattle.certificate.specs.ExtraTexts.{need_arguments, guard_arguments, extra_text, IsExtraSpellable, IsExtraWithinTypes, IsNeedSpellable, IsNeedWithinTypes, HasOneExtraSpelling}
+use Rattle.certificate.specs.ExtraTexts.{need_arguments, extra_text, IsExtraSpellable, IsExtraWithinTypes, IsNeedSpellable, IsNeedWithinTypes, HasOneExtraSpelling}
 use Rattle.certificate.proofs.EntryLaws.{world_text}
 use Rattle.certificate.proofs.ExtraEntries.{need_text}
-use Rattle.certificate.proofs.ExtraLineTexts.{cells_line, extra_lines, text_again}
+use Rattle.certificate.proofs.ExtraLineTexts.{cells_line, extra_lines, text_again, guard_arguments}
 use Rattle.certificate.proofs.ExtraSteps.{heading_text}
 use Rattle.certificate.proofs.ItemLaws.{line_by, item_at_text, items_text}
 use Rattle.certificate.proofs.LineLaws.{hidden_text, ended_text}

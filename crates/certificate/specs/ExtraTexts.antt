@@ -8,7 +8,7 @@ use Rattle.certificate.specs.declared.extra.Extra.{Extra}
 use Rattle.certificate.specs.declared.extra.ExtraNeed.{ExtraNeed}
 use Rattle.certificate.specs.declared.version.Version.TheVariants.{Two}
 use Rattle.certificate.specs.Numerals.{greatest_number, ascends}
-use Rattle.certificate.specs.Texts.{pair_token, line_text, world_arguments, world_tokens}
+use Rattle.certificate.specs.Texts.{pair_token, line_text, world_tokens}
 use Rattle.certificate.specs.Spelling.{FitsIn32Bits, FitsIn128Bits, IsTermWithinTypes, IsWorldSpellable, IsWorldWithinTypes}
 use Rattle.certificate.specs.ExtraReadings.{contributors_line, extra_of}
 
@@ -26,10 +26,6 @@ need_arguments need =
 -- the tokens of a need's line
 abbrev pub need_tokens : ExtraNeed → List (List ℕ)
 need_tokens need = codes "need" ∷ need_arguments need
-
--- what a complete table against contributors says: as in the certificate's second version, whatever is hidden
-abbrev pub guard_arguments : WorldLine → List (List ℕ)
-guard_arguments line = world_arguments Two [] line
 
 -- the tokens of its line
 abbrev pub guard_tokens : WorldLine → List (List ℕ)

@@ -1,6 +1,7 @@
 //! Laws of certificates, as contracts of functions that do nothing.
 
 ghost use Rattle.certificate.specs.Laws.{IsReadBack, HasOneSpelling};
+ghost use Rattle.certificate.specs.ExtraTexts.{IsExtraReadBack, HasOneExtraSpelling};
 ghost use Rattle.certificate.specs.WorkedTexts.{ReadsOpenCertificate, ReadsFirstVersion, ReadsSecondVersion, WritesSecondVersion, FindsVersion, FindsMoveOfZero, FindsOrderOfMoves, FindsFormOfMoves, FindsShapeFirst, FindsNumberNext, FindsOrderLast};
 
 /// The text of a certificate in a version in which it has one is read as that certificate.
@@ -12,6 +13,17 @@ pub fn text_is_read_back()
 /// Bytes that are read as a certificate are its text in one of the versions, so it has one spelling in each.
 pub fn one_spelling()
     ensures { HasOneSpelling }
+{}
+
+/// The text of extra cells that have one is read as those extra cells.
+#[tactic(auto, using(crate::proofs::ExtraBack::extra_read_back))]
+pub fn extra_text_is_read_back()
+    ensures { IsExtraReadBack }
+{}
+
+/// Bytes that are read as extra cells are their text, so they have one spelling.
+pub fn one_extra_spelling()
+    ensures { HasOneExtraSpelling }
 {}
 
 /// Worked texts are read as they should be: certificates of both versions, and the faults of a line in their order.

@@ -24,6 +24,8 @@ pub use extra::{Extra, ExtraNeed};
 pub use extra_reading::read_extra;
 pub use extra_writing::write_extra;
 pub use faults::{CertError, CertWhy};
-pub use laws::{one_spelling, text_is_read_back, worked_texts};
+pub use laws::{
+    extra_text_is_read_back, one_extra_spelling, one_spelling, text_is_read_back, worked_texts,
+};
 pub use reading::read_certificate;
 pub use writing::write_certificate;

@@ -14,9 +14,19 @@ use Rattle.code_trees.specs.Growing.{tree_with_node}
 use Rattle.code_trees.specs.Path.{next_path}
 use Rattle.code_trees.specs.Levels.{level, prefixes, chain, code_above, IsAscending, IsClosed}
 use Rattle.code_trees.specs.Among.{IsIn}
-use Rattle.code_trees.specs.Chains.{last_chain, IsHeld}
 use Rattle.code_trees.proofs.Paths.{length-next, next-below, next-last}
 use Rattle.code_trees.proofs.Prefixes.{before-has, first-has, level-zero, shared-prefixes, length-prefixes, prefixes-last, not_before_itself}
+
+-- the places of the path are those of these codes
+pub record ArePlacesOf (tree : Tree) (path : List ℕ) (held : List (List ℕ)) : Type 0 where
+  pub each : length path ≡ length held
+  pub code : (depth : ℕ) → depth < length path
+      → code_at tree (slice_index path depth) ≡ Some (slice_index_or held depth [])
+
+-- the total and the prefixes of the last of the first n codes
+abbrev pub last_chain : List ℕ → List ℕ → List (List ℕ) → ℕ → List (List ℕ)
+last_chain total bounds codes zero = total ∷ []
+last_chain total bounds codes (suc n) = chain total bounds (slice_index_or codes n [])
 
 same_bytes : (a b : List ℕ) → a ≡ b → bytes_eq a b ≡ true
 same_bytes a b h = (bytes_eq-Decides a b).1 h
@@ -109,8 +119,8 @@ last_or_below : (k n : ℕ) → k < n + 1 → (k < n) ⊎ (k ≡ n)
 last_or_below k n h = grind arith
 
 -- the path after the next code
-pub held-next : (tree : Tree) (path : List ℕ) (held : List (List ℕ)) (total bounds code : List ℕ) (parent : ℕ) → IsHeld tree path held → IsNext held total bounds code
-    → IsHeld (tree_with_node tree code parent) (next_path path (level bounds code) (length tree)) (chain total bounds code)
+pub held-next : (tree : Tree) (path : List ℕ) (held : List (List ℕ)) (total bounds code : List ℕ) (parent : ℕ) → ArePlacesOf tree path held → IsNext held total bounds code
+    → ArePlacesOf (tree_with_node tree code parent) (next_path path (level bounds code) (length tree)) (chain total bounds code)
 held-next tree path held total bounds code parent is next = record {
   each = omega (arith, len, length-prefixes bounds code);
   code = λ depth short. elim (last_or_below depth (level bounds code + 1) (omega (arith, len, short))) [
@@ -129,7 +139,7 @@ held-next tree path held total bounds code parent is next = record {
     ends h = rw add-one h
 
 -- the parent of the next code
-pub parent-next : (tree : Tree) (path : List ℕ) (held : List (List ℕ)) (total bounds code : List ℕ) → HasDistinctCodes tree → IsHeld tree path held → IsNext held total bounds code
+pub parent-next : (tree : Tree) (path : List ℕ) (held : List (List ℕ)) (total bounds code : List ℕ) → HasDistinctCodes tree → ArePlacesOf tree path held → IsNext held total bounds code
     → find tree (code_above total bounds code) ≡ Some (slice_index path (level bounds code))
 parent-next tree path held total bounds code distinct is next =
     find-at tree distinct (slice_index path (level bounds code)) (code_above total bounds code) (is.code (level bounds code) (omega (arith, is.each, next.within)) ∙ ap Some (next.same (level bounds code) (omega arith)))

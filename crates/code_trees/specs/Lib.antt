@@ -10,5 +10,4 @@ pub mod Path
 pub mod MissingCodes
 pub mod Levels
 pub mod LevelNodes
-pub mod Chains
 pub mod Laws

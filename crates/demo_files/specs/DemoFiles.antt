@@ -11,10 +11,6 @@ use Rattle.demo_files.specs.Surveys.{survey}
 abbrev pub job_name : List ℕ
 job_name = codes "demo.job"
 
--- the certificate that it puts
-abbrev pub certificate_name : List ℕ
-certificate_name = codes "demo.cert"
-
 -- ---- what they hold
 
 -- Turnover by region and industry, and by region and size, with a rule on frequencies and one on dominance; the cells

@@ -6,13 +6,14 @@ use Rattle.std.proofs.lemmas.List.{map-append, drop_more, take_more, length-drop
 use Rattle.sdc_base.specs.Cubes.{choices}
 use Rattle.sdc_base.specs.CubeOrder.{Offer}
 use Rattle.sdc_base.specs.declared.cube.Edge.{Edge}
-use Rattle.hypercube.specs.Branches.{Setting, begin_at, costs_more, price_of, shared_corners}
+use Rattle.hypercube.specs.Branches.{Setting, begin_at, costs_more, shared_corners}
 use Rattle.hypercube.specs.Ranks.{BeginAt, price_over}
 use Rattle.hypercube.proofs.AllOf.{all-flat, all-map, all-more}
 use Rattle.hypercube.proofs.OwnCorners.{own-dearer}
 use Rattle.hypercube.proofs.Pruning.{IsNoBetter, as-long, corners_in, dearer-more, none-better}
 use Rattle.hypercube.proofs.Searches.{best_among, cubes_beyond}
 use Rattle.hypercube.proofs.SharedCorners.{and-parts, begin-behind, choices-begin, codes-same, codes_of}
+use Rattle.hypercube.proofs.HidingPrices.{price_of}
 
 -- ---- what holds of all from a place on
 

@@ -1,3 +1,4 @@
+mod HidingPrices
 pub mod Room
 pub mod Orders
 pub mod AllOf

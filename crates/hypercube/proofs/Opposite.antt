@@ -7,7 +7,7 @@ use Rattle.sdc_base.specs.Cubes.{choices, corner_at, corner_places, corners_of, 
 use Rattle.sdc_base.specs.CubeOrder.{Offer}
 use Rattle.sdc_base.specs.declared.cube.Corner.{Corner}
 use Rattle.sdc_base.specs.declared.cube.Edge.{Edge}
-use Rattle.hypercube.specs.Branches.{Setting, begin_at, best_beyond, cell_in, costs_more, number_with_codes, price_of, shared_corners, sign_beyond}
+use Rattle.hypercube.specs.Branches.{Setting, begin_at, best_beyond, cell_in, costs_more, number_with_codes, shared_corners, sign_beyond}
 use Rattle.hypercube.specs.LeastCubes.{is_marked, price_in}
 use Rattle.hypercube.specs.Ranks.{BeginAt, IsLeft, opposite, price_at, price_over, serves_at}
 use Rattle.hypercube.proofs.AllOf.{all-map, all-more}
@@ -15,6 +15,7 @@ use Rattle.hypercube.proofs.OwnCorners.{none-failed, over-sum, own-place}
 use Rattle.hypercube.proofs.Pruning.{IsNoBetter, corners_in, dearer-more, none-better}
 use Rattle.hypercube.proofs.Rankings.{back-codes, front-codes}
 use Rattle.hypercube.proofs.SharedCorners.{bears_at, begin-behind, begun-sum, choices-begin, codes_of, corners-sum, counted, ends-sum, failure, first-place, followed, none-fails}
+use Rattle.hypercube.proofs.HidingPrices.{price_of}
 
 -- ---- its place and sign
 

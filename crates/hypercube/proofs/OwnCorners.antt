@@ -6,11 +6,12 @@ use Rattle.std.proofs.lemmas.List.{length-map, take-append-drop}
 use Rattle.sdc_base.specs.Cubes.{corner_at, corner_places, corners_of, other_end, own_end, serve, sign_over}
 use Rattle.sdc_base.specs.declared.cube.Corner.{Corner}
 use Rattle.sdc_base.specs.declared.cube.Edge.{Edge}
-use Rattle.hypercube.specs.Branches.{Setting, cell_in, number_with_codes, price_of, shared_corners}
+use Rattle.hypercube.specs.Branches.{Setting, cell_in, number_with_codes, shared_corners}
 use Rattle.hypercube.specs.LeastCubes.{is_marked, price_in}
 use Rattle.hypercube.specs.Ranks.{price_over, serves_over}
 use Rattle.hypercube.proofs.Pruning.{corners_in}
 use Rattle.hypercube.proofs.SharedCorners.{bears_at, begun-sum, codes_of, corners-sum, counted, ends-sum, failure, first-place, followed, none-fails}
+use Rattle.hypercube.proofs.HidingPrices.{price_of}
 
 -- the places of the shared corners, and the place of the edge's own, are among those of the cube
 pub over-sum : (g : List ℕ × Bool → ℕ) (chosen : List Edge) (edge : Edge) (more : List Edge)

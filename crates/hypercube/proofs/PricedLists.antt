@@ -5,8 +5,9 @@ use Rattle.std.proofs.lemmas.List.{drop_all, drop_more, length-map}
 use Rattle.sdc_base.specs.CubeOrder.{Offer}
 use Rattle.sdc_base.specs.declared.cube.Edge.{Edge}
 use Rattle.hypercube.specs.declared.ranking.PricedEdge.{PricedEdge}
-use Rattle.hypercube.specs.Branches.{Setting, best_beyond, costs_more, price_of, shared_corners}
+use Rattle.hypercube.specs.Branches.{Setting, best_beyond, costs_more, shared_corners}
 use Rattle.hypercube.specs.Ranks.{ArePriced, AreRanked, BeginAt, IsLeft, edge_lists, edges_in, price_over, with_price}
+use Rattle.hypercube.proofs.HidingPrices.{price_of}
 use Rattle.hypercube.proofs.Opposite.{passed-over}
 use Rattle.hypercube.proofs.Leaving.{all-get, begin-next, leaving}
 use Rattle.hypercube.proofs.Searches.{among-next, best_among, beyond-begun}

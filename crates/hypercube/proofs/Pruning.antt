@@ -8,10 +8,11 @@ use Rattle.sdc_base.specs.Cubes.{choices, corners_of, serve}
 use Rattle.sdc_base.specs.CubeOrder.{Offer, better, comes_before, is_lower, offer_of}
 use Rattle.sdc_base.specs.declared.cube.Corner.{Corner}
 use Rattle.sdc_base.specs.declared.cube.Edge.{Edge}
-use Rattle.hypercube.specs.Branches.{Setting, begin_at, best_beyond, cell_in, number_with_codes, costs_more, offers_of, price_of, shared_corners}
+use Rattle.hypercube.specs.Branches.{Setting, begin_at, best_beyond, cell_in, number_with_codes, costs_more, offers_of, shared_corners}
 use Rattle.hypercube.specs.LeastCubes.{is_marked, price_in}
 use Rattle.hypercube.proofs.AllOf.{all-map, all-more}
 use Rattle.hypercube.proofs.SharedCorners.{begin-behind, choices-begin, codes_of, shared-serve, shared-sum}
+use Rattle.hypercube.proofs.HidingPrices.{price_of}
 
 -- the corners of a cube
 abbrev pub corners_in : Setting → List Edge → List Corner

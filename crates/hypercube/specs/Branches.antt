@@ -4,7 +4,7 @@ use Rattle.std.specs.List.{filter_map, list_all}
 use Rattle.std.specs.Option.{option_map_or}
 use Rattle.sdc_base.specs.Records.{Name}
 use Rattle.sdc_base.specs.Cubes.{choices, corner_at, corner_places, corners_of, sign_over, with_corner}
-use Rattle.sdc_base.specs.CubeOrder.{Offer, better, comes_before, offers, price_of_hiding}
+use Rattle.sdc_base.specs.CubeOrder.{Offer, better, comes_before, offers}
 use Rattle.sdc_base.specs.declared.cell.Cell.{Cell}
 use Rattle.sdc_base.specs.declared.cube.Corner.{Corner}
 use Rattle.sdc_base.specs.declared.cube.Edge.{Edge}
@@ -91,11 +91,6 @@ pub record IsSearchable (setting : Setting) : Type 0 where
 -- the cell at a place of the table
 abbrev pub cell_in : Setting → List ℕ → Option ℕ
 cell_in setting place = cell_at setting.book setting.table place
-
--- the price of the corners that aren't hidden yet
-abbrev pub price_of : Setting → List Corner → ℕ
-price_of setting corners =
-    price_of_hiding (is_marked setting.book) (price_in setting.book setting.cells setting.cost) corners
 
 -- the corners that each cube has which begins with these edges: those with the cell's own code for each further
 -- variable

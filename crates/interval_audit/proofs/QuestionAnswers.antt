@@ -17,7 +17,7 @@ use Rattle.sdc_base.proofs.WholeNumbers.{assoc, swap_times, times_more, below_fr
 use Rattle.tableau.specs.declared.problem.Problem.{Problem}
 use Rattle.interval_audit.specs.Points.{IsPoint, AreDualWeights, comes_to, weighed_bounds}
 use Rattle.sdc_base.specs.Systems.{number_at}
-use Rattle.interval_audit.specs.WalkStates.{WalkState, IsAtPoint, IsAtTarget, IsAtOptimum, IsAtEnd, objective_of}
+use Rattle.interval_audit.specs.WalkStates.{WalkState, IsAtPoint, IsAtTarget, IsAtOptimum, objective_of}
 use Rattle.worlds.specs.declared.world.World.{World}
 use Rattle.worlds.specs.declared.multipliers.Multipliers.{Multipliers}
 use Rattle.worlds.specs.NumberLists.{terms_of, number_given}
@@ -42,6 +42,7 @@ use Rattle.interval_audit.proofs.Lowering.{read_moves, read_is_world, toward_tim
 use Rattle.interval_audit.proofs.Pairing.{behind, multiplier_is}
 use Rattle.interval_audit.proofs.Scaling.{AreLong, scaled, sum_times, bounded_less}
 use Rattle.interval_audit.proofs.Proper.{rows_long, caps_few, rank-most}
+use Rattle.interval_audit.proofs.ReadStates.{IsAtEnd}
 
 -- ---- moves and multipliers by their places
 

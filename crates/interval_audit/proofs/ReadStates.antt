@@ -1,5 +1,5 @@
 -- Where a walk stands, told by its table.
-use Rattle.std.proofs.Common.{◌≡◌, ℕ, zero, suc, ◌+◌, ◌<◌, List, [], ◌∷◌, ◌++◌, length, map, get_or, slice_index_or, All, ℤ, pos, ◌+ℤ◌, ◌*ℤ◌, ◌≤ℤ◌, ◌<ℤ◌, arith, ap, sym, ◌∙◌, refl, subst, length-append, add-one, true, false, inl, inr}
+use Rattle.std.proofs.Common.{◌≡◌, ℕ, zero, suc, ◌+◌, ◌<◌, List, [], ◌∷◌, ◌++◌, length, map, get_or, slice_index_or, All, ℤ, pos, ◌+ℤ◌, ◌*ℤ◌, ◌≤ℤ◌, ◌<ℤ◌, arith, ap, sym, ◌∙◌, refl, subst, length-append, add-one, true, false, inl, inr, ◌⊎◌}
 use Rattle.std.specs.List.{range_with_len, zip}
 use Rattle.std.specs.Ordering.{int_eq}
 use Rattle.std.proofs.lemmas.Int.{ints, by_lt_z}
@@ -24,8 +24,12 @@ use Rattle.tableau.specs.Tableaus.{TableauWalk}
 use Rattle.tableau.specs.TableLaws.{value}
 use Rattle.interval_audit.specs.Points.{comes_to}
 use Rattle.interval_audit.specs.Answers.{HasEnded}
-use Rattle.interval_audit.specs.WalkStates.{state_of, objective_of, IsAtPoint, IsAtEnd}
+use Rattle.interval_audit.specs.WalkStates.{state_of, objective_of, IsAtPoint, WalkState}
 use Rattle.interval_audit.specs.WalkStates.{IsAtTarget, IsAtOptimum}
+
+-- it stands at its end: at the target, or stuck
+abbrev pub IsAtEnd : WalkState → Type 0
+IsAtEnd walk = IsAtTarget walk ⊎ IsAtOptimum walk
 
 -- ---- the values
 

@@ -1,5 +1,5 @@
 -- What tables of a question's problem say of the same question with fewer hidden cells (own).
-use Rattle.std.specs.Prelude.{◌≡◌, ℕ, ◌*◌, ◌/◌, ◌&&◌, not, Bool, true, nat_lt, List, length, slice_index, FitsSigned, ◌*ℤ◌}
+use Rattle.std.specs.Prelude.{◌≡◌, ℕ, ◌*◌, ◌/◌, Bool, true, List, slice_index, FitsSigned, ◌*ℤ◌}
 use Rattle.std.specs.Int.{w128}
 use Rattle.sdc_base.specs.declared.cell.Cell.{Cell}
 use Rattle.sdc_base.specs.declared.relation.Relation.{Relation}
@@ -18,11 +18,6 @@ use Rattle.interval_audit.specs.Groups.{Group, IsComponentOf, members}
 -- the cell of a column
 abbrev pub cell_of_column : Group → ℕ → ℕ → ℕ
 cell_of_column group n column = slice_index (members group n) (column / 2)
-
--- it is a column, and its cell isn't among the hidden ones
-abbrev pub is_left_out : List Bool → Group → ℕ → ℕ → Bool
-is_left_out flags group n column =
-    nat_lt column (2 * length (members group n)) && not (is_hidden flags (cell_of_column group n column))
 
 -- The question's walk stops short with these multipliers, and so its answer has them where the relations have no signs.
 -- It is right if no number is wider than 128 bits when it is checked.

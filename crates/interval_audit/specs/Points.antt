@@ -18,11 +18,6 @@ pub record IsPoint (problem : Problem) (den : ℤ) (amounts : Numbers) : Type 0 
   pub from_zero : (column : ℕ) → column < problem.columns → pos 0 ≤ℤ amounts column
   pub within : All (λ row. comes_to amounts row.entries ≤ℤ (den *ℤ row.bound)) problem.rows
 
--- a point whose objective is at most the target
-pub record IsFeasible (problem : Problem) (den : ℤ) (amounts : Numbers) : Type 0 where
-  pub point : IsPoint problem den amounts
-  pub target : comes_to amounts problem.objective ≤ℤ (den *ℤ problem.target)
-
 -- what rows have at a column, each as many times as its weight says
 abbrev pub weighed_at : List (ℤ × LinRow) → ℕ → ℤ
 weighed_at weighed column = sum_of (λ w. w.0 *ℤ coefficient w.1.entries column) weighed

@@ -1,5 +1,5 @@
 -- Where a walk on a problem stands, by what is read of it (own).
-use Rattle.std.specs.Prelude.{◌≡◌, ℕ, List, [], ◌∷◌, ◌++◌, length, ℤ, pos, ◌*ℤ◌, ◌<ℤ◌, ◌⊎◌}
+use Rattle.std.specs.Prelude.{◌≡◌, ℕ, List, [], ◌∷◌, ◌++◌, length, ℤ, pos, ◌*ℤ◌, ◌<ℤ◌}
 use Rattle.std.specs.List.{zip}
 use Rattle.tableau.specs.declared.problem.Problem.{Problem}
 use Rattle.tableau.specs.Readings.{values_of, slacks_of}
@@ -49,7 +49,3 @@ pub record IsAtOptimum (walk : WalkState) : Type 0 where
   pub slacks : walk.slacks ≡ weights ++ pos 0 ∷ []
   pub duals : AreDualWeights walk.problem walk.den weights
   pub value : weighed_bounds (zip weights walk.problem.rows) ≡ objective_of walk
-
--- it stands at its end: at the target, or stuck
-abbrev pub IsAtEnd : WalkState → Type 0
-IsAtEnd walk = IsAtTarget walk ⊎ IsAtOptimum walk

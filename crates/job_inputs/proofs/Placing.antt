@@ -23,10 +23,15 @@ use Rattle.microdata.specs.declared.layout.Layout.{Layout}
 use Rattle.microdata.specs.declared.records.Records.{Records}
 use Rattle.microdata.specs.declared.layout.NumberField.{NumberField}
 use Rattle.job_inputs.specs.Layouts.{number_field, no_number, number_at, weight_in, last_position, up_to_field, up_to_number, layout_of}
-use Rattle.job_inputs.specs.PlacedFields.{IsPlaced, IsPlacedField, IsPlacedNumber}
+use Rattle.job_inputs.specs.PlacedFields.{IsPlaced, IsPlacedField}
 use Rattle.job_inputs.specs.SoundJobs.{IsSoundJob, AreAtLeaves, AreRecords}
 use Rattle.job_inputs.specs.declared.described.DescribedJob.{DescribedJob}
 use Rattle.microdata.specs.declared.layout.Source.TheVariants as source
+
+-- a number that has at most so many decimals
+pub record IsPlacedNumber (most : ℕ) (number : NumberField) : Type 0 where
+  pub placed : IsPlaced number.first number.width
+  pub decimals : number.decimals ≤ most
 
 each-all : {X : Type 0} (P : X → Type 0) (xs : List X) → AllByRecursion P xs → (k : ℕ) (d : X) → k < length xs → P (slice_index_or xs k d)
 each-all P [] h k d inside = absurd (omega (arith, inside))

@@ -4,7 +4,6 @@ use Rattle.std.specs.List.{AllByRecursion}
 use Rattle.job_inputs.specs.declared.described.DescribedJob.{DescribedJob}
 use Rattle.microdata.specs.Layouts.{IsSource}
 use Rattle.microdata.specs.declared.layout.Field.{Field}
-use Rattle.microdata.specs.declared.layout.NumberField.{NumberField}
 
 -- it begins at a position from 1, has at least one byte, and ends at position 1,000 at the latest
 pub record IsPlaced (first width : ℕ) : Type 0 where
@@ -16,11 +15,6 @@ pub record IsPlaced (first width : ℕ) : Type 0 where
 pub record IsPlacedField (field : Field) : Type 0 where
   pub placed : IsPlaced field.first field.width
   pub codes : IsSource field.source
-
--- a number that has at most so many decimals
-pub record IsPlacedNumber (most : ℕ) (number : NumberField) : Type 0 where
-  pub placed : IsPlaced number.first number.width
-  pub decimals : number.decimals ≤ most
 
 -- the fields of a job's spanning variables: one for each, in its place
 pub record AreFieldsOf (described : DescribedJob) (fields : List Field) : Type 0 where

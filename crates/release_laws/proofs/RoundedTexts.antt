@@ -19,8 +19,8 @@ use Rattle.linked_tables.specs.BookViews.{BookView}
 use Rattle.linked_tables.specs.BookCells.{cells as cells_in}
 use Rattle.plain_text.proofs.ReadBack.{printed_read}
 use Rattle.release_writer.proofs.Behind.{behind-self, fields_before, line-last}
-use Rattle.release_writer.proofs.ReadBack.{ReadsNew, release-read}
-use Rattle.release_writer.specs.ReadingLaws.{IsReleased, first_shown}
+use Rattle.release_writer.proofs.ReadBack.{ReadsNew, release-read, first_shown}
+use Rattle.release_writer.specs.ReadingLaws.{IsReleased}
 use Rattle.release_writer.specs.ReleaseReading.{shown_numbers}
 use Rattle.release_writer.specs.LineChoices.{Template, choice_there, line_showing, new_value, number_there, value_read}
 use Rattle.release_laws.specs.RoundingLaws.{RoundedAreReadBack}

@@ -19,8 +19,12 @@ use Rattle.linked_tables.specs.BookCells.{cells, name_in_table, number_of}
 use Rattle.release_writer.specs.ShownCells.{open_truth}
 use Rattle.release_writer.specs.ReleaseReading.{ReleaseSoFar, LinePlace, next_line, with_value, read_place, read_places, read_table, read_tables, release_read, is_left, flags_of}
 use Rattle.release_writer.specs.LineChoices.{Template, rest_behind, line_showing, choice_there, new_value, value_there, truth_of, or_second}
-use Rattle.release_writer.specs.ReadingLaws.{AreTexts, first_shown, HiddenAreReadBack}
+use Rattle.release_writer.specs.ReadingLaws.{AreTexts, HiddenAreReadBack}
 use Rattle.release_writer.proofs.Behind.{behind-self, crossed-differs}
+
+-- what the first n cells show
+abbrev pub first_shown : (ℕ → Option ℤ) → ℕ → List (Option ℤ)
+first_shown shown n = map shown (range_with_len 0 n)
 
 -- ---- what the first cells show
 

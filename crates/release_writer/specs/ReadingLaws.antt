@@ -1,7 +1,6 @@
 -- What is written is read as that (own).
-use Rattle.std.specs.Prelude.{◌≡◌, ◌<◌, ℕ, Bool, true, false, List, [], ◌∷◌, length, map, slice_get, Option, ℤ, pos, Ok}
+use Rattle.std.specs.Prelude.{◌≡◌, ◌<◌, ℕ, Bool, true, false, List, [], ◌∷◌, length, slice_get, Option, ℤ, pos, Ok}
 use Rattle.std.specs.Option.{option_and_then}
-use Rattle.std.specs.List.{range_with_len}
 use Rattle.sdc_base.specs.TableText.{table_text}
 use Rattle.linked_tables.specs.BookViews.{BookView}
 use Rattle.linked_tables.specs.BookCells.{cells, number_of}
@@ -16,10 +15,6 @@ AreTexts book decimals shown (table ∷ tables) (own ∷ names) (bytes ∷ files
     (bytes ≡ table_text book.trees table own decimals (λ name. option_and_then shown (number_of book name)))
     × AreTexts book decimals shown tables names files
 AreTexts book decimals shown tables names files = true ≡ false
-
--- what the first n cells show
-abbrev pub first_shown : (ℕ → Option ℤ) → ℕ → List (Option ℤ)
-first_shown shown n = map shown (range_with_len 0 n)
 
 -- texts that were written for a hidden set are read as that set
 abbrev pub HiddenAreReadBack : Type 0

@@ -13,7 +13,7 @@ use Rattle.rounding.specs.Neighbours.{is_multiple, neighbour}
 use Rattle.rounding.specs.Choices.{Choices, unrounded_cells, by_choices}
 use Rattle.sdc_base.specs.Forms.{count_of}
 use Rattle.rounding.specs.Extremes.{extreme_numbers, extreme_of_form, spans_none, is_open}
-use Rattle.rounding.specs.Searches.{IsRoundingList, NoneExtends, unrounded_count}
+use Rattle.rounding.specs.Searches.{IsRoundingList, unrounded_count}
 use Rattle.rounding.specs.Tasks.{IsProper}
 use Rattle.rounding.specs.Fixes.{Fix, with_fix, by_fixes, FixedCells, number_left, allows, IsWithin, NoneWithin, AllCanHold}
 use Rattle.rounding.specs.FixedSteps.{IsForced, IsTaken}
@@ -24,6 +24,11 @@ use Rattle.rounding.proofs.FormLemmas.{least_is, greatest_is}
 use Rattle.rounding.proofs.FixSteps.{length-by_fixes, ordered, between, left_spot}
 use Rattle.rounding.proofs.Opening.{spans}
 use Rattle.rounding.proofs.SumSteps.{named_at}
+use Rattle.sdc_base.specs.declared.system.System.{System}
+
+-- no rounding extends a list
+abbrev pub NoneExtends : System → List ℤ → ℤ → Choices → Type 0
+NoneExtends system truths base list = (rest : Choices) → IsRoundingList system truths base (list ++ rest) → ⊥
 
 -- ---- the cell of the next choice
 

@@ -19,13 +19,13 @@ use Rattle.rounding.specs.Neighbours.{is_multiple}
 use Rattle.rounding.specs.Choices.{unrounded_cells}
 use Rattle.sdc_base.specs.Truths.{IsTruth}
 use Rattle.rounding.specs.Arcs.{IsBalanced}
-use Rattle.rounding.specs.Rings.{IsBeside, AreBeside, KeepMultiples, IsTurn, room, numbers_after_turns}
+use Rattle.rounding.specs.Rings.{IsBeside, AreBeside, KeepMultiples, room, numbers_after_turns}
 use Rattle.rounding.specs.Circuits.{IsMove, AreMoves, IsWalk, step_at, room_of, turns_of}
 use Rattle.rounding.proofs.Adjacency.{left_within}
 use Rattle.rounding.proofs.FormLemmas.{Changed}
 use Rattle.rounding.proofs.SumSteps.{changed_by_set}
 use Rattle.rounding.proofs.Walking.{Apart}
-use Rattle.rounding.proofs.Rings.{from_none, up_room, down_room, not_none, moved_beside, multiple_stays_put, one_becomes}
+use Rattle.rounding.proofs.Rings.{from_none, up_room, down_room, not_none, moved_beside, multiple_stays_put, one_becomes, IsTurn}
 use Rattle.rounding.proofs.Fewer.{fewer_from}
 use Rattle.rounding.proofs.Balances.{circuit_balanced, gone_balanced, balanced_same}
 

@@ -7,8 +7,12 @@ use Rattle.std.proofs.lemmas.Bool.Decides.{Decides-int_eq}
 use Rattle.sdc_base.proofs.WholeNumbers.{distrib, minus_times}
 use Rattle.sdc_base.specs.Roundings.{IsMultiple, IsAdjacent}
 use Rattle.rounding.specs.Neighbours.{is_multiple, multiple_down, neighbour}
-use Rattle.rounding.specs.Rings.{IsBeside, IsTurn, room}
+use Rattle.rounding.specs.Rings.{IsBeside, room}
 use Rattle.rounding.proofs.Adjacency.{left_within, none_or_one, neighbour_is_multiple, no_rest, some_rest, down_is, multiple_is_adjacent}
+
+-- a cell doesn't move, or isn't a multiple and moves up or down
+abbrev pub IsTurn : ℤ → ℤ → ℤ → Type 0
+IsTurn base number turn = (turn ≡ pos 0) ⊎ ((is_multiple base number ≡ false) × ((turn ≡ pos 1) ⊎ (turn ≡ negsuc 0)))
 
 -- ---- multiples
 

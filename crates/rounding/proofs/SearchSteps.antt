@@ -5,14 +5,18 @@ use Rattle.sdc_base.specs.Systems.{number_at}
 use Rattle.rounding.specs.Neighbours.{is_multiple}
 use Rattle.rounding.specs.Choices.{Choices}
 use Rattle.rounding.specs.Extremes.{is_open}
-use Rattle.rounding.specs.Searches.{IsRoundingList, Stops, HasSeen, NoneExtends, unrounded_count}
+use Rattle.rounding.specs.Searches.{IsRoundingList, Stops, HasSeen, unrounded_count, after_in}
 use Rattle.rounding.specs.Tasks.{IsProper}
 use Rattle.rounding.specs.Fixes.{by_fixes, FixedCells, allows}
-use Rattle.rounding.specs.PartialLists.{Step, choices_of, IsPartial, IsSameTask, LeadsTo, ahead_of, after_of}
-use Rattle.rounding.proofs.LeftSteps.{left_open, up_allowed, whole_left, none_extends, barred_extends}
+use Rattle.rounding.specs.PartialLists.{Step, choices_of, IsPartial, IsSameTask, LeadsTo, ahead_of}
+use Rattle.rounding.proofs.LeftSteps.{left_open, up_allowed, whole_left, none_extends, barred_extends, NoneExtends}
 use Rattle.rounding.proofs.Opening.{open_whole_rounds}
 use Rattle.rounding.proofs.PartialSteps.{IsNext, length-choices_of}
 use Rattle.rounding.proofs.SeenSteps.{nothing_seen, left_out, on_down, on_up, back_up, back_down, back_past, looked_stops, none_ahead}
+
+-- what comes after a list and those that extend it
+abbrev pub after_of : FixedCells → Choices → List Choices
+after_of b list = after_in b.system b.truths b.base list
 
 -- the count of cells that aren't multiples
 whole_count : (b : FixedCells) (naming : List (List ℕ)) (cells : List ℕ) (steps : List Step) (viable : Bool) → IsPartial b naming cells steps viable → length steps ≡ length cells → length (choices_of steps) ≡ unrounded_count b.truths b.base

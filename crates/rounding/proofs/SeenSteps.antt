@@ -7,9 +7,10 @@ use Rattle.sdc_base.specs.Roundings.{IsRounding}
 use Rattle.rounding.specs.Choices.{Choices}
 use Rattle.rounding.specs.Extremes.{is_open}
 use Rattle.rounding.specs.Tasks.{IsProper}
-use Rattle.rounding.specs.Searches.{lists_from, lists_of, after_in, ahead_in, unrounded_count, IsRoundingList, Stops, HasSeen, NoneExtends}
+use Rattle.rounding.specs.Searches.{lists_from, lists_of, after_in, ahead_in, unrounded_count, IsRoundingList, Stops, HasSeen}
 use Rattle.rounding.proofs.SearchLemmas.{lists_few, ahead_open, after_up, after_down}
 use Rattle.rounding.proofs.Opening.{none_left}
+use Rattle.rounding.proofs.LeftSteps.{NoneExtends}
 
 -- nothing has been seen
 pub nothing_seen : (system : System) (truths : List ℤ) (base : ℤ) → HasSeen system truths base 0 (ahead_in system truths base [])

@@ -4,7 +4,7 @@ use Rattle.sdc_base.specs.Systems.{number_at}
 use Rattle.rounding.specs.Choices.{Choices, unrounded_cells, by_choices}
 use Rattle.rounding.specs.Namings.{IsNaming}
 use Rattle.rounding.specs.Fixes.{FixedCells, number_left, IsWithin, NoneWithin, AllCanHold}
-use Rattle.rounding.specs.Searches.{IsRoundingList, HasSeen, ahead_in, after_in}
+use Rattle.rounding.specs.Searches.{IsRoundingList, HasSeen, ahead_in}
 use Rattle.rounding.specs.Tasks.{IsProper}
 
 -- a choice, and how many cells were fixed before it
@@ -50,10 +50,6 @@ IsSameTask before after = after ≡ record before { fixes = after.fixes }
 -- what comes from a list on, in the search
 abbrev pub ahead_of : FixedCells → Choices → List Choices
 ahead_of b list = ahead_in b.system b.truths b.base list
-
--- what comes after a list and those that extend it
-abbrev pub after_of : FixedCells → Choices → List Choices
-after_of b list = after_in b.system b.truths b.base list
 
 -- from a list on, one list is looked at and others may be left out, and these are ahead
 abbrev pub LeadsTo : FixedCells → Choices → List Choices → Type 0

@@ -1,6 +1,6 @@
 -- Going round: numbers between the neighbours of the truths move up or down together until a cell more is a multiple
 -- (own).
-use Rattle.std.specs.Prelude.{◌≡◌, ◌⊎◌, ℕ, ◌<◌, ◌^◌, true, false, List, All, length, ℤ, pos, negsuc, ◌+ℤ◌, ◌-ℤ◌, ◌*ℤ◌, ◌≤ℤ◌, int_lt, if◌then◌else◌}
+use Rattle.std.specs.Prelude.{◌≡◌, ℕ, ◌<◌, ◌^◌, true, List, All, length, ℤ, pos, ◌+ℤ◌, ◌-ℤ◌, ◌*ℤ◌, ◌≤ℤ◌, int_lt, if◌then◌else◌}
 use Rattle.std.specs.Int.RustNames.{int_rem}
 use Rattle.sdc_base.specs.Systems.{Numbers, number_at}
 use Rattle.rounding.specs.Neighbours.{is_multiple, multiple_down}
@@ -39,10 +39,6 @@ KeepMultiples base before after =
 -- the cells below this one are multiples
 abbrev pub AreWholeBelow : ℤ → List ℤ → ℕ → Type 0
 AreWholeBelow base numbers first = (cell : ℕ) → cell < first → is_multiple base (number_at numbers cell) ≡ true
-
--- a cell doesn't move, or isn't a multiple and moves up or down
-abbrev pub IsTurn : ℤ → ℤ → ℤ → Type 0
-IsTurn base number turn = (turn ≡ pos 0) ⊎ ((is_multiple base number ≡ false) × ((turn ≡ pos 1) ⊎ (turn ≡ negsuc 0)))
 
 -- how far a cell can go its way to the next multiple
 abbrev pub room : ℤ → ℤ → ℤ → ℤ

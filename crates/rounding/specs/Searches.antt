@@ -50,10 +50,6 @@ pub record Stops (system : System) (truths : List ℤ) (base : ℤ) (nodes : ℕ
   pub many : nodes ≤ length (lists_of system truths base)
   pub none : All (λ list. IsRoundingList system truths base list → ⊥) (take nodes (lists_of system truths base))
 
--- no rounding extends a list
-abbrev pub NoneExtends : System → List ℤ → ℤ → Choices → Type 0
-NoneExtends system truths base list = (rest : Choices) → IsRoundingList system truths base (list ++ rest) → ⊥
-
 -- At least so many lists of the search have been looked at, or left out, and none of them is a rounding. These are
 -- ahead.
 pub record HasSeen (system : System) (truths : List ℤ) (base : ℤ) (seen : ℕ) (lists : List Choices) : Type 0 where

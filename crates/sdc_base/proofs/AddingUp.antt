@@ -8,13 +8,14 @@ use Rattle.std.proofs.lemmas.List.{set-get_or}
 use Rattle.std.proofs.lemmas.List.Elements.{All-head, All-tail}
 use Rattle.sdc_base.specs.Trees.{Tree, IsCodeTree, children, is_child, is_under, met_in, parent_at}
 use Rattle.sdc_base.specs.Records.{Name, falls_in, row_falls}
-use Rattle.sdc_base.specs.Sums.{share_of_record, truth, weighted_value}
+use Rattle.sdc_base.specs.Sums.{truth, weighted_value}
 use Rattle.sdc_base.specs.declared.rows.Row.{Row}
 use Rattle.sdc_base.proofs.Walks.{count-none, met-none, parent_is_earlier}
 use Rattle.sdc_base.specs.Places.{count}
 use Rattle.sdc_base.specs.Totals.{sum_of}
 use Rattle.sdc_base.specs.AddingUp.{IsCoded, TablesAddUp}
 use Rattle.sdc_base.proofs.TotalLemmas.{sum_of-cons}
+use Rattle.sdc_base.proofs.Truths.{share_of_record}
 
 -- numbers for places, added up from the last
 abbrev sum_over : (ℕ → ℤ) → List ℕ → ℤ

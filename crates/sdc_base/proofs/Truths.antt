@@ -5,8 +5,12 @@ use Rattle.std.proofs.lemmas.List.Elements.{filter_more, All-head, All-tail}
 use Rattle.std.proofs.lemmas.List.Sums.{fold-append}
 use Rattle.sdc_base.specs.Trees.{Tree}
 use Rattle.sdc_base.specs.Records.{Name, falls_in, row_falls}
-use Rattle.sdc_base.specs.Sums.{truth, weighted_value, share_of_record, rows_in}
+use Rattle.sdc_base.specs.Sums.{truth, weighted_value, rows_in}
 use Rattle.sdc_base.specs.declared.rows.Row.{Row}
+
+-- what one record adds to the truth of a cell
+abbrev pub share_of_record : List Tree → Name → Row → ℤ
+share_of_record trees name row = if row_falls trees name row then weighted_value row else pos 0
 
 -- one record more
 pub truth_more : (trees : List Tree) (name : List ℕ) (rows : List Row) (i : ℕ) (d : Row) → i < length rows → truth trees name (take (i + 1) rows) ≡ truth trees name (take i rows) +ℤ share_of_record trees name (get_or rows i d)

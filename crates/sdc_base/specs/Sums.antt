@@ -1,5 +1,5 @@
 -- What the records that fall in a cell come to: truth and frequency (handbook, magnitude tables; weights: own).
-use Rattle.std.specs.Prelude.{ℕ, List, length, filter, fold, if◌then◌else◌, ℤ, pos, ◌+ℤ◌, ◌*ℤ◌}
+use Rattle.std.specs.Prelude.{ℕ, List, length, filter, fold, ℤ, pos, ◌+ℤ◌, ◌*ℤ◌}
 use Rattle.sdc_base.specs.Trees.{Tree}
 use Rattle.sdc_base.specs.Records.{Name, row_falls}
 use Rattle.sdc_base.specs.declared.rows.Row.{Row}
@@ -15,10 +15,6 @@ weighted_value row = pos row.weight *ℤ row.value
 -- the truth of a cell: the sum of weight times value over the records that fall in it
 abbrev pub truth : List Tree → Name → List Row → ℤ
 truth trees name rows = fold (λ sum row. sum +ℤ weighted_value row) (pos 0) (rows_in trees name rows)
-
--- what one record adds to the truth of a cell
-abbrev pub share_of_record : List Tree → Name → Row → ℤ
-share_of_record trees name row = if row_falls trees name row then weighted_value row else pos 0
 
 -- the frequency of a cell: how many records fall in it
 abbrev pub freq : List Tree → Name → List Row → ℕ

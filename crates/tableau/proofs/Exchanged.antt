@@ -16,7 +16,6 @@ use Rattle.tableau.specs.declared.sparse_table.SparseTable.{SparseTable}
 use Rattle.tableau.specs.OwnRows.{own_den, factor_of, row_over, DensDivide, IsDenOf, AreOwnRows, AreWithDens}
 use Rattle.tableau.specs.NewRows.{exchanged_den, exchanged_number, AreNewRows}
 use Rattle.tableau.specs.SparseTables.{table_of, width_of}
-use Rattle.tableau.specs.CommonDivisors.{AreInLowestTerms}
 use Rattle.tableau.specs.Tables.{Table, HasShape, exchanged_table, times_row}
 use Rattle.tableau.specs.Widths.{is_wide, all_rows, IsWideAt}
 use Rattle.tableau.proofs.CrossedEntries.{apart_or, other_number, other_own, pivot_number, pivot_own, times_wide, or_left, or_right}
@@ -29,6 +28,7 @@ use Rattle.tableau.specs.Entries.{IsSparse}
 use Rattle.tableau.proofs.Independent.{by_less}
 use Rattle.tableau.proofs.SparseTables.{sparse_shaped}
 use Rattle.std.proofs.lemmas.List.{get_or_append_left, get_or_at}
+use Rattle.tableau.proofs.ReducedRows.{AreInLowestTerms}
 
 pub wide_neg : (x : ℤ) → is_wide (neg_ℤ x) ≡ is_wide x
 wide_neg (pos zero) = refl

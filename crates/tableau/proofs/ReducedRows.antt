@@ -1,5 +1,5 @@
 -- Divided entries are those of the reduced table.
-use Rattle.std.proofs.Common.{◌≡◌, ◌≢◌, ℕ, zero, suc, ◌+◌, ◌<◌, ◌≤◌, List, [], ◌∷◌, ◌++◌, length, map, take, drop, slice_index_or, All, ℤ, pos, negsuc, ◌*ℤ◌, ◌≤ℤ◌, unsigned_abs, arith, refl, ap, sym, subst, ◌∙◌, length-append, length-take}
+use Rattle.std.proofs.Common.{◌≡◌, ◌≢◌, ℕ, zero, suc, ◌+◌, ◌<◌, ◌≤◌, List, [], ◌∷◌, ◌++◌, length, map, take, drop, slice_index_or, All, ℤ, pos, negsuc, ◌*ℤ◌, ◌≤ℤ◌, unsigned_abs, arith, refl, ap, sym, subst, ◌∙◌, length-append, length-take, ◌*◌}
 use Prim.Native.Nat.{◌∣◌}
 use Rattle.std.proofs.Math.Nat.{dvd-mul_left}
 use Rattle.std.proofs.lemmas.Int.{ints, unsigned_abs-mul}
@@ -13,12 +13,19 @@ use Rattle.tableau.specs.Steps.{IsInLowestTerms}
 use Rattle.tableau.specs.Widths.{all_rows}
 use Rattle.tableau.specs.ProblemForm.{AscendFrom}
 use Rattle.tableau.specs.Entries.{IsSparse, AreEntriesOf, AreListsOf, times_entry}
-use Rattle.tableau.specs.CommonDivisors.{AreInLowestTerms}
 use Rattle.tableau.specs.OwnRows.{row_over}
 use Rattle.tableau.proofs.Divisors.{abs_up}
 use Rattle.tableau.proofs.Ascending.{first_entry, not_first}
 use Rattle.tableau.proofs.Places.{ascend_of}
 use Rattle.tableau.proofs.Independent.{by_less}
+
+-- den and rows are those of a table divided by the greatest number that divides them all
+pub record AreInLowestTerms (width : ℕ) (whole : Table) (den by : ℤ) (lists : List (List Term)) : Type 0 where
+  pub above : pos 1 ≤ℤ by
+  pub den_times : den *ℤ by ≡ whole.den
+  pub rows_times : map (λ entries. times_row by (row_over den width entries)) lists ≡ all_rows whole
+  pub greatest : (e : ℕ) → e ∣ unsigned_abs whole.den →
+      All (λ row. All (λ number. e ∣ unsigned_abs number) row) (all_rows whole) → e ∣ unsigned_abs by
 
 pub times_divides : (e m : ℤ) → unsigned_abs e ∣ unsigned_abs (m *ℤ e)
 times_divides e m = subst (λ t. unsigned_abs e ∣ t) (sym (unsigned_abs-mul m e)) (dvd-mul_left (unsigned_abs e) (unsigned_abs m))

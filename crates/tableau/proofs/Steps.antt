@@ -9,8 +9,8 @@ use Rattle.tableau.specs.Amounts.{value_of}
 use Rattle.tableau.specs.Tables.{Table, HasShape, IsQuotient, RowHolds, row_form, under_row, times_row, dot, form_at, exchanged_table}
 use Rattle.sdc_base.specs.Systems.{number_at}
 use Rattle.tableau.specs.Problems.{IsTrueOf, all_amounts, rows_of, variable_count}
-use Rattle.tableau.specs.RowLists.{Leaves, RowsAreLexPositive, Rises, AreZeros, list_of, list_size}
-use Rattle.tableau.specs.Walks.{IsBasisOf, StepGivesTable, ExchangeKeepsBasis, DivisionKeepsBack}
+use Rattle.tableau.specs.RowLists.{Leaves, RowsAreLexPositive, Rises, AreZeros, list_of, list_size, Implies}
+use Rattle.tableau.specs.Walks.{IsBasisOf, StepGivesTable}
 use Rattle.tableau.proofs.Dots.{dot-times, moved}
 use Rattle.tableau.proofs.Exchanges.{by_place, same_form, times_none, exchange_keeps, exchange_keeps_back, division_keeps}
 use Rattle.tableau.proofs.Independent.{no_row_is_none}
@@ -27,7 +27,8 @@ replaced_item P xs i k v within same other =
     (λ is. subst P (sym (ap (λ j. slice_index (set xs i v) j) is ∙ get_or-set_same xs i v 0 within)) (same is))
     (λ apart. subst P (sym (get_or-set_other xs i k v 0 apart)) (other apart))
 
-pub exchange_keeps_basis : ExchangeKeepsBasis
+-- an exchange keeps a basis
+pub exchange_keeps_basis : (numbers : ℕ) (table : Table) (row column : ℕ) → row < length table.members → column < length table.others → IsBasisOf numbers table.members table.others → IsBasisOf numbers (exchanged_table table row column).members (exchanged_table table row column).others
 exchange_keeps_basis numbers table row column row_within column_within basis =
     let entering : ℕ = slice_index table.others column in
     let leaving : ℕ = slice_index table.members row in
@@ -58,7 +59,8 @@ multiplied_form d den member row xs = omega (arith, ints, dot-times d row xs, mo
 multiplied_row : (d den member : ℤ) (row xs : List ℤ) → RowHolds den member row xs → RowHolds (den *ℤ d) member (times_row d row) xs
 multiplied_row d den member row xs holds = multiplied_form d den member row xs ∙ ap (λ t. d *ℤ t) holds ∙ times_none d
 
-pub division_keeps_back : DivisionKeepsBack
+-- a division takes nothing away
+pub division_keeps_back : (d : ℤ) (table part : Table) → HasShape part → IsQuotient d table part → Implies part table
 division_keeps_back d table part shaped divided amounts objective whole holds =
     let under : under_row part amounts whole ≡ under_row table amounts whole = ap (λ t. map amounts t ++ neg_ℤ whole ∷ []) divided.others in
     record {

@@ -1,7 +1,7 @@
 -- Steps from table to table, and what each keeps (own).
 use Rattle.std.specs.Prelude.{◌≡◌, ◌≢◌, ◌⊎◌, ℕ, zero, suc, ◌+◌, ◌<◌, ◌≤◌, ◌^◌, ◌==◌, List, [], ◌∷◌, length, slice_index, ℤ, pos, ◌≤ℤ◌, if◌then◌else◌}
 use Rattle.std.specs.List.{list_any}
-use Rattle.tableau.specs.Tables.{Table, HasShape, IsQuotient, exchanged_table}
+use Rattle.tableau.specs.Tables.{Table, HasShape}
 use Rattle.tableau.specs.declared.problem.Problem.{Problem}
 use Rattle.tableau.specs.Problems.{NamesColumns, IsTrueOf, BoundsAreFromZero, rows_of, variable_count, first_table}
 use Rattle.tableau.specs.RowLists.{RowsAreLexPositive, Rises, Implies}
@@ -17,16 +17,6 @@ pub record IsBasisOf (numbers : ℕ) (member_list other_list : List ℕ) : Type 
       slice_index member_list j ≢ slice_index other_list k
   pub members_below : (k : ℕ) → k < length member_list → slice_index member_list k < numbers
   pub others_below : (k : ℕ) → k < length other_list → slice_index other_list k < numbers
-
--- an exchange keeps a basis
-abbrev pub ExchangeKeepsBasis : Type 0
-ExchangeKeepsBasis = (numbers : ℕ) (table : Table) (row column : ℕ) → row < length table.members →
-    column < length table.others → IsBasisOf numbers table.members table.others →
-    IsBasisOf numbers (exchanged_table table row column).members (exchanged_table table row column).others
-
--- a division takes nothing away
-abbrev pub DivisionKeepsBack : Type 0
-DivisionKeepsBack = (d : ℤ) (table part : Table) → HasShape part → IsQuotient d table part → Implies part table
 
 -- a table of the problem has a member for each row, and all else are its others
 pub record HasSize (problem : Problem) (table : Table) : Type 0 where

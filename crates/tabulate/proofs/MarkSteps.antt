@@ -1,11 +1,11 @@
 -- Records given to a mark.
-use Rattle.std.proofs.Common.{◌≡◌, ℕ, ◌+◌, ◌-◌, ◌*◌, ◌^◌, min, nat_abs, sum_by, All, take, List, [], ◌∷◌, ◌++◌, length, fold, refl, ap, sym, ◌∙◌, subst, arith, ℤ, pos, negsuc, ◌+ℤ◌, ◌*ℤ◌, ◌≤ℤ◌, length-append}
+use Rattle.std.proofs.Common.{◌≡◌, ℕ, ◌+◌, ◌-◌, ◌*◌, ◌^◌, min, nat_abs, sum_by, All, take, List, [], ◌∷◌, ◌++◌, length, fold, ap, sym, ◌∙◌, arith, ℤ, pos, negsuc, ◌+ℤ◌, ◌*ℤ◌, ◌≤ℤ◌, length-append}
 use Rattle.std.specs.Prelude.{IsPermutation}
 use Rattle.std.specs.Int.{saturate_signed, w128}
 use Rattle.std.proofs.lemmas.Int.{ints}
 use Rattle.std.proofs.lemmas.List.{map-append}
 use Rattle.std.proofs.lemmas.List.Elements.{All-append, All-cons, All-nil, All-head, All-tail}
-use Rattle.std.proofs.lemmas.List.Sums.{fold-append, sum_by-append, sum_by-cons, sum_by_push}
+use Rattle.std.proofs.lemmas.List.Sums.{sum_by-append, sum_by-cons, sum_by_push}
 use Rattle.std.proofs.lemmas.List.Sorted.{All-permutation, IsPermutation-map, IsPermutation-trans, IsPermutation-sym, length_permutation, sum_by-IsPermutation}
 use Rattle.sdc_base.specs.Sums.{weighted_value}
 use Rattle.sdc_base.specs.Largest.{contribution, ranking_of}
@@ -14,7 +14,11 @@ use Rattle.sdc_base.specs.declared.rows.Row.{Row}
 use Rattle.sdc_base.specs.declared.tops.Tops.{Tops}
 use Rattle.sdc_base.specs.declared.tops.Unit.{Unit as Contribution}
 use Rattle.linked_tables.specs.declared.mark.Mark.{Mark}
-use Rattle.tabulate.specs.MarkRecords.{HoldsRecords, sum_of, units_of, worth_of_record}
+use Rattle.tabulate.specs.MarkRecords.{HoldsRecords, units_of, worth_of_record}
+
+-- weight times value of records, added up
+abbrev pub sum_of : List Row → ℤ
+sum_of rows = fold (λ sum row. sum +ℤ weighted_value row) (pos 0) rows
 
 pub worth-is : (row : Row) → pos 0 ≤ℤ row.value → weighted_value row ≡ pos (worth_of_record row)
 worth-is row h = by row.weight row.value h

@@ -1,15 +1,10 @@
 -- What a mark tells of the records that it was given (own).
-use Rattle.std.specs.Prelude.{◌≡◌, ℕ, ◌≤◌, ◌-◌, ◌*◌, ◌^◌, min, nat_abs, sum_by, All, ◌≤ℤ◌, Bool, List, length, map, fold, slice_get, Option, Some, option_map, ℤ, pos, ◌+ℤ◌}
-use Rattle.sdc_base.specs.Sums.{weighted_value}
+use Rattle.std.specs.Prelude.{◌≡◌, ℕ, ◌≤◌, ◌-◌, ◌*◌, ◌^◌, min, nat_abs, sum_by, All, ◌≤ℤ◌, Bool, List, length, map, slice_get, Option, Some, option_map, ℤ, pos}
 use Rattle.sdc_base.specs.Largest.{contribution}
 use Rattle.sdc_base.specs.LargestKept.{KeepsLargest}
 use Rattle.sdc_base.specs.declared.rows.Row.{Row}
 use Rattle.sdc_base.specs.declared.tops.Unit.{Unit as Contribution}
 use Rattle.linked_tables.specs.declared.mark.Mark.{Mark}
-
--- weight times value of records, added up
-abbrev pub sum_of : List Row → ℤ
-sum_of rows = fold (λ sum row. sum +ℤ weighted_value row) (pos 0) rows
 
 -- what records contribute, in their order
 abbrev pub units_of : List Row → List Contribution

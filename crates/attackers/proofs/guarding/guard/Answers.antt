@@ -3,7 +3,7 @@ use Rattle.sdc_base.specs.Signs.{AreSigns}
 use Rattle.sdc_base.specs.declared.system.System.{System}
 use Rattle.repair.specs.HidingOrder.{protected_case}
 use Rattle.repair.proofs.Concluding.{where_ok}
-use Rattle.repair.proofs.Prices.{length-prices}
+use Rattle.repair.proofs.PricedCells.{length-prices}
 use Rattle.attackers.specs.declared.attack.Attack.{Attack}
 use Rattle.attackers.specs.AttackOrder as order
 use Rattle.attackers.specs.GuardStops.{IsStopAsTold}

@@ -5,12 +5,11 @@ use Rattle.sdc_base.specs.Trees.{Tree, codes, find}
 use Rattle.code_trees.specs.Growing.{tree_with_node}
 use Rattle.code_trees.specs.Path.{next_path}
 use Rattle.code_trees.specs.Levels.{level, tree_of_codes}
-use Rattle.code_trees.specs.Chains.{last_chain, IsHeld}
 use Rattle.code_trees.proofs.FlatSteps.{drop-at, take-at}
 use Rattle.code_trees.proofs.Growth.{codes-grown}
 use Rattle.code_trees.proofs.CodeFaults.{length-codes}
 use Rattle.code_trees.proofs.Prefixes.{index-in}
-use Rattle.code_trees.proofs.LevelSteps.{next-new, next-shares, held-next, parent-next}
+use Rattle.code_trees.proofs.LevelSteps.{next-new, next-shares, held-next, parent-next, last_chain, ArePlacesOf}
 use Rattle.code_trees.proofs.level_form.place_codes.Goals as goal
 
 pub place_code-requires-clause-new : goal.place_code-requires-clause-new
@@ -53,14 +52,14 @@ codes-preserved c =
     let nodes : c.place_code.new.nodes ≡ tree_with_node tree code parent =
     c.in_ok-place_code.ensures.grows ∙ ap (λ (x : List ℕ). tree_with_node tree x (slice_index path c.level_of-place.result)) item ∙ ap (λ (n : ℕ). tree_with_node tree code (slice_index path n)) place in
     let paths : c.place_code.new.path.items ≡ next_path path (level bounds code) (length tree) = c.in_ok-place_code.ensures.next ∙ ap (λ (n : ℕ). next_path path n (length tree)) place in
-    let held : IsHeld (tree_with_node tree code parent) (next_path path (level bounds code) (length tree)) (last_chain total bounds all (suc i)) = held-next tree path (last_chain total bounds all i) total bounds code parent c.codes.invariant.held next in
+    let held : ArePlacesOf (tree_with_node tree code parent) (next_path path (level bounds code) (length tree)) (last_chain total bounds all (suc i)) = held-next tree path (last_chain total bounds all i) total bounds code parent c.codes.invariant.held next in
     record {
       tree = c.in_ok-place_code.ensures.tree;
       path = c.in_ok-place_code.ensures.path;
       known = ap codes nodes ∙ codes-grown tree code parent ∙ ap (λ (known : List (List ℕ)). known ++ code ∷ []) c.codes.invariant.known ∙ ap (λ (rest : List (List ℕ)). total ∷ rest) (sym (take-at all i code at_code));
-      held = subst (λ (n : ℕ). IsHeld c.place_code.new.nodes c.place_code.new.path.items (last_chain total bounds all n)) (sym (add-one i))
-          (subst (λ (t : Tree). IsHeld t c.place_code.new.path.items (last_chain total bounds all (suc i))) (sym nodes)
-          (subst (λ (p : List ℕ). IsHeld (tree_with_node tree code parent) p (last_chain total bounds all (suc i))) (sym paths) held));
+      held = subst (λ (n : ℕ). ArePlacesOf c.place_code.new.nodes c.place_code.new.path.items (last_chain total bounds all n)) (sym (add-one i))
+          (subst (λ (t : Tree). ArePlacesOf t c.place_code.new.path.items (last_chain total bounds all (suc i))) (sym nodes)
+          (subst (λ (p : List ℕ). ArePlacesOf (tree_with_node tree code parent) p (last_chain total bounds all (suc i))) (sym paths) held));
       rest = c.codes.invariant.rest
           ∙ ap (tree_of_codes total bounds tree) (drop-at all i code at_code)
           ∙ ap (λ (o : Option ℕ). tree_of_codes total bounds (tree ++ (code, o) ∷ []) (drop (i + 1) all)) (parent-next tree path (last_chain total bounds all i) total bounds code c.codes.invariant.tree.distinct c.codes.invariant.held next)

@@ -2,9 +2,9 @@ use Rattle.std.proofs.Common.{◌≡◌, ◌∙◌, true, false, sym, rules, Fit
 use Rattle.std.specs.Int.{w128}
 use Rattle.std.proofs.lemmas.Int.{to_z-of_z}
 use Rattle.interval_audit.specs.Groups.{Group, group_of}
-use Rattle.interval_audit.specs.WalkStates.{state_of, IsAtEnd}
+use Rattle.interval_audit.specs.WalkStates.{state_of}
 use Rattle.interval_audit.proofs.QuestionAnswers.{IsWorldReading, read_off, reached_where, blocked_where}
-use Rattle.interval_audit.proofs.ReadStates.{at_end, blocked_really}
+use Rattle.interval_audit.proofs.ReadStates.{at_end, blocked_really, IsAtEnd}
 use Rattle.interval_audit.proofs.finish.finish.Goals as goal
 
 pub returns-then-is_product-clause-right : goal.returns-then-is_product-clause-right

@@ -1,4 +1,4 @@
-use Rattle.repair.proofs.Prices.{prices_pushed}
+use Rattle.repair.proofs.PricedCells.{prices_pushed}
 use Rattle.repair.proofs.prices.list_prices.Goals as goal
 
 pub loop-number-preserved : goal.loop-number-preserved

@@ -10,7 +10,7 @@ use Rattle.repair.specs.declared.stopped.Stopped.{Stopped}
 use Rattle.repair.specs.declared.verdict.Verdict.{Verdict}
 use Rattle.repair.proofs.Wholeness.{where_whole, where_whole_stop}
 use Rattle.repair.proofs.Concluding.{where_ok, cannot_where}
-use Rattle.repair.proofs.Prices.{length-prices}
+use Rattle.repair.proofs.PricedCells.{length-prices}
 use Rattle.repair.proofs.Flags.{planned_length, planned_permitted}
 use Rattle.repair.proofs.protecting.protect.Goals as goal
 

@@ -5,10 +5,11 @@ use Rattle.sdc_base.specs.CubeOrder.{Offer, better, comes_before}
 use Rattle.sdc_base.specs.declared.cube.Corner.{Corner}
 use Rattle.sdc_base.specs.declared.cube.Edge.{Edge}
 use Rattle.hypercube.specs.declared.ranking.PricedEdge.{PricedEdge}
-use Rattle.hypercube.specs.Branches.{Setting, best_beyond, costs_more, price_of, shared_corners}
+use Rattle.hypercube.specs.Branches.{Setting, best_beyond, costs_more, shared_corners}
 use Rattle.hypercube.specs.Ranks.{BeginAt, IsLeft, edge_lists, edges_in}
 use Rattle.hypercube.proofs.Pruning.{left-out, whole-cube}
 use Rattle.hypercube.proofs.PricedLists.{next-among, next-begins, next-begun, next-ended, next-leaves, next-left}
+use Rattle.hypercube.proofs.HidingPrices.{price_of}
 use Rattle.hypercube.proofs.Searches.{best_among}
 use Rattle.hypercube.proofs.search.Search.+better.Goals as goal
 

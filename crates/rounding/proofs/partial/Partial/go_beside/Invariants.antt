@@ -1,6 +1,7 @@
 use Rattle.std.proofs.Common.{length}
-use Rattle.rounding.specs.PartialLists.{IsPartial, IsSameTask, LeadsTo, after_of, choices_of}
+use Rattle.rounding.specs.PartialLists.{IsPartial, IsSameTask, LeadsTo, choices_of}
 use Rattle.rounding.proofs.partial.Partial.go_beside.Given as goal
+use Rattle.rounding.proofs.SearchSteps.{after_of}
 
 abbrev pub invariant-back : goal.invariant-back
 invariant-back l = record {
