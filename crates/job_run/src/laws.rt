@@ -3,8 +3,9 @@
 ghost use Rattle.job_run.specs.Laws.{CellsShowAdjacent, ShownMarginsAddUp};
 ghost use Rattle.job_run.specs.SecondRuns.{SecondRunsComplete};
 
-/// In a rounded release every cell shows a multiple of the base, less than one base from the weighted sum of its
-/// records, and every cell that is a total shows the sum of its parts, in every table.
+/// Where values are a rounding of a job's cells, each cell has a multiple of the base less than one base from the weighted
+/// sum of its records; and a cell of a table that spans a variable, with codes right below its own, has the sum of what
+/// the cells with one of these codes in its place have.
 pub fn rounded_tables_add_up()
     ensures adjacent { CellsShowAdjacent }
     ensures margins { ShownMarginsAddUp }
