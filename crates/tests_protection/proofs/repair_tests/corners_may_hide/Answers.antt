@@ -3,7 +3,7 @@ use Rattle.std.proofs.lemmas.List.{take_all}
 use Rattle.sdc_base.specs.declared.trail.PlanStep.{PlanStep}
 use Rattle.sdc_base.specs.HiddenSets.{MayHide}
 use Rattle.sdc_base.specs.Trails.{corners_of}
-use Rattle.repair.proofs.PricedCells.{All-more}
+use Rattle.tests_protection.proofs.PartLists.{All-more}
 use Rattle.tests_protection.proofs.repair_tests.corners_may_hide.Goals as goal
 
 pub steps-preserved : goal.steps-preserved
