@@ -3,7 +3,7 @@
 # read this file, with the repository's folder as $top.
 
 # Kits differ in their commands; what is proved depends on their logic alone.
-kit='rattle-kit-13b'
+kit='rattle-kit-13f'
 logic='logic dac8208d650f15bf'
 
 # The machine that the built programs are for.

@@ -34,7 +34,7 @@ exit "${2:-0}"
 RT = """#!/bin/sh
 echo "$*" >>"%(log)s"
 case $1 in
-version) echo "rattle-kit-13b %(logic)s" ;;
+version) echo "rattle-kit-13f %(logic)s" ;;
 all) echo "== argus_prog" ;;
 run)
     mkdir -p out
@@ -156,7 +156,7 @@ def try_built_make(folder: str) -> None:
     told = dict(line.split(" ", 1) for line in read(tree.at("built", "sources.sum")).splitlines())
     same(sorted(told), ["argus", "cells", "commit", "kit", "made", "sources"], "the words of sources.sum")
     same(told["sources"], sum_by_hand(tree.top), "the checksum")
-    same(told["kit"], "rattle-kit-13b " + LOGIC, "the kit")
+    same(told["kit"], "rattle-kit-13f " + LOGIC, "the kit")
     first = {}
     for name in ("argus", "cells"):
         with open(tree.at("built", name + "-x86_64-linux.gz"), "rb") as file:
@@ -381,7 +381,7 @@ def try_help_and_version(folder: str) -> None:
     status, said, told = tree.ask("--version")
     lines = said.split("\n")
     same((status, told, len(lines)), (0, "", 4), "argus --version")
-    same(lines[:2], ["argus, commit not known here (no clone of git)", "kit rattle-kit-13b " + LOGIC], "commit and kit")
+    same(lines[:2], ["argus, commit not known here (no clone of git)", "kit rattle-kit-13f " + LOGIC], "commit and kit")
     wants(re.fullmatch("program in built/, made on DAY from these very sources: the next call unpacks it".replace("DAY", DAY), lines[2]) is not None, lines[2])
     tree.ask("run", "0")
     line = tree.ask("--version")[1].split("\n")[2]
