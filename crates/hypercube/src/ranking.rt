@@ -1,3 +1,6 @@
+//! The partners that a cell's cubes may have, by variable, in the order of the least cube: those whose own corner costs
+//! least come first, so a search comes to the least cube early.
+
 ghost use Rattle.std.specs.Prelude.{◌≡◌, ◌++◌, ◌∷◌, [], if◌then◌else◌, slice_index_or, IfOk, OnOk};
 ghost use Rattle.hypercube.specs.Ranks.{AreRankings, IsRanking, priced_of, serves_over, with_price};
 

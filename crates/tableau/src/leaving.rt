@@ -1,3 +1,7 @@
+//! The lexicographic ratio test: of the rows that limit how far a column may come in, the one leaves whose value and
+//! slacks, divided by its number in the column, are least as a list. No two rows have the same list, so no walk goes in
+//! circles.
+
 ghost use Rattle.std.specs.Prelude.{◌≡◌, ◌+◌, ◌<◌, [], length, slice_index_or, ℕ, pos, ◌≤ℤ◌, IfSome, IfNone};
 ghost use Rattle.sdc_base.specs.Systems.{number_at};
 ghost use Rattle.tableau.specs.RowLists.{Leaves};
