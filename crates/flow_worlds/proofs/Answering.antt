@@ -17,14 +17,14 @@ use Rattle.worlds.specs.declared.multipliers.Multipliers.{Multipliers}
 use Rattle.worlds.specs.declared.world.World.{World}
 use Rattle.sdc_base.specs.Totals.{sum_below}
 use Rattle.flow_worlds.specs.declared.task.Task.{Task}
-use Rattle.flow_worlds.specs.Arcs.{arc_at, brings_to}
+use Rattle.signed_network.specs.Arcs.{arc_at, brings_to}
 use Rattle.flow_worlds.specs.Cuts.{IsCut, IsOne}
 use Rattle.flow_worlds.specs.FlowAnswers.{AreWholeMultipliersAt, IsWholeWorldAt}
 use Rattle.flow_worlds.specs.Flows.{IsFlow, IsFlowOf}
 use Rattle.flow_worlds.specs.Steps.{is_up, turn_of}
 use Rattle.flow_worlds.specs.Tasks.{IsTask}
 use Rattle.flow_worlds.proofs.Rooming.{kept}
-use Rattle.flow_worlds.proofs.Balances.{balanced_holds}
+use Rattle.signed_network.proofs.Balances.{balanced_holds}
 use Rattle.flow_worlds.proofs.Tightness.{IsSettled, sum_is, bounded_is, held_is}
 
 toward_is : (side : Side) (z : ℤ) → amount_toward side z ≡ number_with_sign (is_up side) z
@@ -37,7 +37,7 @@ flow_world : (task : Task) (moves : List ℤ) → IsTask task → IsFlow task mo
 flow_world task moves is flow = record {
   positive = omega (arith, ints);
   shown_stay = λ cell _ shown. flow.shown_stay cell shown;
-  relations_hold = balanced_holds task.system.now.relations task.signs.now task.system.now.cells task.arcs.now (number_at moves) is.are_arcs task.system.now.named flow.balanced;
+  relations_hold = balanced_holds task.system.now.relations task.signs.now task.system.now.cells task.arcs.now (length task.system.now.relations) (number_at moves) is.are_arcs task.system.now.named (omega arith) flow.balanced;
   bounds_hold = flow.bounds_hold;
 }
 

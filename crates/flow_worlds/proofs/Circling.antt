@@ -7,12 +7,12 @@ use Rattle.std.proofs.lemmas.List.Quantifiers.{all_pairs_push}
 use Rattle.sdc_base.specs.Signs.{number_with_sign}
 use Rattle.sdc_base.proofs.WholeNumbers.{minus_times}
 use Rattle.sdc_base.proofs.TotalLemmas.{sum_of-append, sum_of-cons}
-use Rattle.flow_worlds.specs.declared.arcs.Arc.{Arc}
+use Rattle.signed_network.specs.declared.arcs.Arc.{Arc}
 use Rattle.flow_worlds.specs.declared.steps.Step.{Step}
 use Rattle.flow_worlds.specs.declared.search.Visit.{Visit}
 use Rattle.flow_worlds.specs.declared.search.Search.{Search}
 use Rattle.flow_worlds.specs.declared.task.Task.{Task}
-use Rattle.flow_worlds.specs.Arcs.{arc_at, at_point, brings_to}
+use Rattle.signed_network.specs.Arcs.{arc_at, at_point, brings_to}
 use Rattle.flow_worlds.specs.Steps.{step_of, turn_of}
 use Rattle.flow_worlds.specs.Searches.{AreVisits, IsOpenStep, IsSearchOf, visit_at, visited}
 use Rattle.flow_worlds.specs.Circuits.{AreAlong, Carries, IsCircuit, IsVisited, brought, step_at}

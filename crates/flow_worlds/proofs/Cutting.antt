@@ -16,11 +16,12 @@ use Rattle.sdc_base.specs.Worlds.{IsWithinBounds}
 use Rattle.sdc_base.proofs.TotalLemmas.{sum_of-cons}
 use Rattle.worlds.specs.NumberLists.{IsListed}
 use Rattle.worlds.specs.declared.multipliers.Multipliers.{Multipliers}
-use Rattle.flow_worlds.specs.declared.arcs.Arc.{Arc}
+use Rattle.signed_network.specs.declared.arcs.Arc.{Arc}
 use Rattle.flow_worlds.specs.declared.steps.Step.{Step}
 use Rattle.flow_worlds.specs.declared.search.Search.{Search}
 use Rattle.flow_worlds.specs.declared.task.Task.{Task}
-use Rattle.flow_worlds.specs.Arcs.{Touches, arc_at, is_same}
+use Rattle.signed_network.specs.Arcs.{arc_at, is_same}
+use Rattle.signed_network.specs.Networks.{Touches}
 use Rattle.flow_worlds.specs.Rooms.{has_room}
 use Rattle.flow_worlds.specs.Steps.{step_of, step_from, turn_of}
 use Rattle.flow_worlds.specs.Tasks.{IsTask}

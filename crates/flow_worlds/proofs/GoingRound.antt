@@ -6,25 +6,37 @@ use Rattle.std.specs.List.{AllPairs}
 use Rattle.std.specs.Int.{w128}
 use Rattle.std.proofs.lemmas.Int.{ints}
 use Rattle.std.proofs.lemmas.List.{take_all, take_more}
-use Rattle.std.proofs.lemmas.List.Elements.{All-get_or, All-weaker, All-more}
+use Rattle.std.proofs.lemmas.List.Elements.{All-get_or, All-map, All-weaker, All-more}
 use Rattle.sdc_base.specs.declared.cell.Cell.{Cell}
-use Rattle.sdc_base.specs.Forms.{coefficient}
+use Rattle.sdc_base.specs.Forms.{Term, coefficient}
 use Rattle.sdc_base.specs.HiddenSets.{is_hidden}
 use Rattle.sdc_base.specs.Signs.{number_with_sign}
 use Rattle.sdc_base.specs.Systems.{number_at}
+use Rattle.sdc_base.specs.Totals.{sum_below}
 use Rattle.sdc_base.specs.Worlds.{IsWithinBounds}
 use Rattle.sdc_base.proofs.WholeNumbers.{distrib}
+use Rattle.sdc_base.proofs.TotalLemmas.{sum_of-map}
+use Rattle.sdc_base.proofs.WeakDual.{by_cells}
+use Rattle.signed_network.specs.declared.arcs.Arc.{Arc}
+use Rattle.signed_network.specs.Arcs.{arc_at, brings_to}
 use Rattle.flow_worlds.specs.declared.steps.Step.{Step}
 use Rattle.flow_worlds.specs.declared.task.Task.{Task}
 use Rattle.flow_worlds.specs.Steps.{turn_of, turns_of}
-use Rattle.flow_worlds.specs.Flows.{IsFlowOf, numbers_after_turns}
+use Rattle.signed_network.specs.Balances.{numbers_after_turns}
+use Rattle.flow_worlds.specs.Flows.{IsFlowOf}
 use Rattle.flow_worlds.specs.Searches.{IsOpenStep}
-use Rattle.flow_worlds.specs.Circuits.{CanGo, IsCircuit, step_at}
+use Rattle.flow_worlds.specs.Circuits.{CanGo, IsCircuit, brought, step_at}
 use Rattle.flow_worlds.specs.Tasks.{IsTask}
 use Rattle.flow_worlds.proofs.Rooming.{kept, from_low, to_high, by_turn_up, by_turn_down}
 use Rattle.flow_worlds.proofs.Listed.{changed_by_set}
 use Rattle.flow_worlds.proofs.Turns.{Apart, moved_or_not, turn_at, turns_push, earlier_unmoved}
-use Rattle.flow_worlds.proofs.Balances.{turns_bring, gone_balanced}
+use Rattle.signed_network.proofs.Balances.{gone_balanced}
+
+-- what steps bring to a point is what their turns do
+turns_bring : (arcs : List Arc) (steps : List Step) (point : ℕ) → All (λ (s : Step). s.cell < length arcs) steps → sum_below (length arcs) (λ cell. coefficient (turns_of steps) cell *ℤ brings_to (arc_at arcs cell) point) ≡ brought arcs steps point
+turns_bring arcs steps point known =
+    by_cells (length arcs) (λ cell. brings_to (arc_at arcs cell) point) (turns_of steps) (All-map (λ (t : Term). t.0 < length arcs) (λ (step : Step). (step.cell, turn_of step)) steps known)
+    ∙ sum_of-map (λ (t : Term). t.1 *ℤ brings_to (arc_at arcs t.0) point) (λ (step : Step). (step.cell, turn_of step)) steps
 
 no_step : Step
 no_step = record { cell = 0; up = false; start = 0; end = 0 }

@@ -1,10 +1,7 @@
 pub mod Rooming
 pub mod Listed
 pub mod Turns
-pub mod Balances
 pub mod GoingRound
-pub mod Arcing
-pub mod Touching
 pub mod Listing
 pub mod Circling
 pub mod Searching

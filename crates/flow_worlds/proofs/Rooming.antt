@@ -8,7 +8,7 @@ use Rattle.sdc_base.specs.Signs.{number_with_sign}
 use Rattle.sdc_base.specs.Worlds.{IsWithinBounds}
 use Rattle.sdc_base.specs.Systems.{number_at}
 use Rattle.flow_worlds.specs.declared.steps.Step.{Step}
-use Rattle.flow_worlds.specs.Arcs.{is_same}
+use Rattle.signed_network.specs.Arcs.{is_same}
 use Rattle.flow_worlds.specs.Rooms.{has_room}
 use Rattle.flow_worlds.specs.Searches.{is_open}
 

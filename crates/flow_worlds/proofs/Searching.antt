@@ -9,17 +9,18 @@ use Rattle.std.proofs.lemmas.List.Quantifiers.{all_pairs_push}
 use Rattle.std.proofs.lemmas.Map.Keys.{IsDistinct-from_apart}
 use Rattle.std.proofs.lemmas.Map.Steps.{length-le_from_distinct_below}
 use Rattle.sdc_base.specs.HiddenSets.{is_hidden}
-use Rattle.flow_worlds.specs.declared.arcs.Arc.{Arc}
+use Rattle.signed_network.specs.declared.arcs.Arc.{Arc}
 use Rattle.flow_worlds.specs.declared.steps.Step.{Step}
 use Rattle.flow_worlds.specs.declared.search.Visit.{Visit}
 use Rattle.flow_worlds.specs.declared.search.Search.{Search}
 use Rattle.flow_worlds.specs.declared.task.Task.{Task}
-use Rattle.flow_worlds.specs.Arcs.{Touches, arc_at}
-use Rattle.flow_worlds.specs.Networks.{cells_at}
+use Rattle.signed_network.specs.Arcs.{arc_at}
+use Rattle.signed_network.specs.Networks.{Touches}
+use Rattle.signed_network.specs.Networks.{cells_at}
 use Rattle.flow_worlds.specs.Steps.{step_of, step_from}
 use Rattle.flow_worlds.specs.Tasks.{IsTask}
 use Rattle.flow_worlds.specs.Searches.{AreVisits, Grows, IsGone, IsOpenStep, IsSearch, IsSearchOf, StaysAt, StaysOver, is_open, is_reached, visit_at, visited}
-use Rattle.flow_worlds.proofs.Arcing.{arcs_within}
+use Rattle.signed_network.proofs.Arcing.{arcs_within}
 use Rattle.flow_worlds.proofs.Circling.{start_of, end_of, start_is, end_is}
 use Rattle.flow_worlds.proofs.Listed.{get_or_any}
 

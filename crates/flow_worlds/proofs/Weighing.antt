@@ -16,8 +16,8 @@ use Rattle.sdc_base.specs.Totals.{sum_below}
 use Rattle.sdc_base.proofs.WholeNumbers.{distrib, minus_times}
 use Rattle.sdc_base.proofs.TotalLemmas.{sum_of-cons, sum_of-append, sum_below-add, sum_below-times, sum_below-same, only}
 use Rattle.worlds.specs.NumberLists.{IsListed}
-use Rattle.flow_worlds.specs.declared.arcs.Arc.{Arc}
-use Rattle.flow_worlds.specs.Arcs.{at_point, brings_to, is_same, IsArcOf}
+use Rattle.signed_network.specs.declared.arcs.Arc.{Arc}
+use Rattle.signed_network.specs.Arcs.{at_point, brings_to, is_same, IsArcOf}
 use Rattle.flow_worlds.specs.Searches.{is_reached}
 use Rattle.flow_worlds.specs.Cuts.{IsOne, multiplier_of, weight_of}
 use Rattle.flow_worlds.proofs.Listing.{listed_behind, listed_wider, none_is_listed}

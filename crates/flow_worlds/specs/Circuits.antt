@@ -5,11 +5,11 @@ use Rattle.sdc_base.specs.declared.cell.Cell.{Cell}
 use Rattle.sdc_base.specs.Systems.{number_at}
 use Rattle.sdc_base.specs.Worlds.{IsWithinBounds}
 use Rattle.sdc_base.specs.Totals.{sum_of}
-use Rattle.flow_worlds.specs.Arcs.{arc_at, at_point, brings_to}
+use Rattle.signed_network.specs.Arcs.{arc_at, at_point, brings_to}
 use Rattle.flow_worlds.specs.Steps.{turn_of, step_of}
 use Rattle.flow_worlds.specs.Searches.{IsOpenStep, visited}
 use Rattle.flow_worlds.specs.declared.search.Visit.{Visit}
-use Rattle.flow_worlds.specs.declared.arcs.Arc.{Arc}
+use Rattle.signed_network.specs.declared.arcs.Arc.{Arc}
 use Rattle.flow_worlds.specs.declared.steps.Step.{Step}
 use Rattle.flow_worlds.specs.declared.task.Task.{Task}
 

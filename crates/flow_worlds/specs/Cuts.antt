@@ -6,7 +6,7 @@ use Rattle.sdc_base.specs.declared.relation.Relation.{Relation}
 use Rattle.sdc_base.specs.Forms.{Term, coefficient, weighted_forms}
 use Rattle.sdc_base.specs.HiddenSets.{is_hidden}
 use Rattle.sdc_base.specs.Signs.{sign_of, times_counted}
-use Rattle.flow_worlds.specs.Arcs.{is_same}
+use Rattle.signed_network.specs.Arcs.{is_same}
 use Rattle.flow_worlds.specs.Searches.{is_reached}
 use Rattle.flow_worlds.specs.Steps.{turn_of}
 use Rattle.sdc_base.specs.Systems.{Numbers, number_at}

@@ -1,12 +1,12 @@
 -- Flows: moves of cells by which a question's network is balanced and every cell is within its bounds (network flows;
 -- own).
-use Rattle.std.specs.Prelude.{◌≡◌, ℕ, false, List, length, slice_get, Some, ℤ, pos, neg_ℤ, ◌+ℤ◌, ◌*ℤ◌, ◌≤ℤ◌}
+use Rattle.std.specs.Prelude.{◌≡◌, ℕ, false, List, length, slice_get, Some, ℤ, pos, neg_ℤ, ◌≤ℤ◌}
 use Rattle.sdc_base.specs.declared.cell.Cell.{Cell}
 use Rattle.sdc_base.specs.HiddenSets.{is_hidden}
 use Rattle.sdc_base.specs.Signs.{number_with_sign}
-use Rattle.sdc_base.specs.Systems.{Numbers, number_at}
+use Rattle.sdc_base.specs.Systems.{number_at}
 use Rattle.sdc_base.specs.Worlds.{IsWithinBounds}
-use Rattle.flow_worlds.specs.Arcs.{IsBalanced}
+use Rattle.signed_network.specs.Balances.{IsBalanced}
 use Rattle.flow_worlds.specs.declared.task.Task.{Task}
 
 -- a move for each cell: balanced, none of a shown cell, each within the cell's bounds
@@ -23,7 +23,3 @@ pub record IsFlowOf (task : Task) (amount : ℤ) (moves : List ℤ) : Type 0 whe
   pub asked : number_with_sign task.asked.up (number_at moves task.asked.cell) ≡ amount
   pub low : (cell : ℕ) → neg_ℤ amount ≤ℤ number_at moves cell
   pub high : (cell : ℕ) → number_at moves cell ≤ℤ amount
-
--- the numbers after so much of the turns
-abbrev pub numbers_after_turns : ℤ → Numbers → Numbers → Numbers
-numbers_after_turns by numbers turns cell = numbers cell +ℤ by *ℤ turns cell

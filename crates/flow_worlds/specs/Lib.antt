@@ -1,5 +1,3 @@
-pub mod Arcs
-pub mod Networks
 pub mod Steps
 pub mod Tasks
 pub mod Rooms

@@ -5,7 +5,8 @@ use Rattle.std.specs.Option.{option_map_or}
 use Rattle.sdc_base.specs.declared.cell.Cell.{Cell}
 use Rattle.sdc_base.specs.HiddenSets.{is_hidden}
 use Rattle.sdc_base.specs.Systems.{number_at}
-use Rattle.flow_worlds.specs.Arcs.{Touches, arc_at, is_same}
+use Rattle.signed_network.specs.Arcs.{arc_at, is_same}
+use Rattle.signed_network.specs.Networks.{Touches}
 use Rattle.flow_worlds.specs.Rooms.{has_room}
 use Rattle.flow_worlds.specs.Steps.{step_of, step_from}
 use Rattle.flow_worlds.specs.declared.steps.Step.{Step}

@@ -4,7 +4,7 @@ use Rattle.sdc_base.specs.declared.side.Side.{Side}
 use Rattle.sdc_base.specs.declared.side.Side.TheVariants.{Above, Below}
 use Rattle.sdc_base.specs.Forms.{Term}
 use Rattle.sdc_base.specs.Signs.{number_with_sign}
-use Rattle.flow_worlds.specs.declared.arcs.Arc.{Arc}
+use Rattle.signed_network.specs.declared.arcs.Arc.{Arc}
 use Rattle.flow_worlds.specs.declared.steps.Step.{Step}
 
 -- the step over a cell: up along its arc, or down against it

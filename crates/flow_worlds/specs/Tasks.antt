@@ -3,8 +3,8 @@ use Rattle.std.specs.Prelude.{◌≡◌, ◌+◌, ◌<◌, ◌^◌, true, length
 use Rattle.sdc_base.specs.Patterns.{IsPattern}
 use Rattle.sdc_base.specs.HiddenSets.{is_hidden}
 use Rattle.sdc_base.specs.Signs.{AreSigns}
-use Rattle.flow_worlds.specs.Arcs.{AreArcsOf, arc_at}
-use Rattle.flow_worlds.specs.Networks.{AreTouching}
+use Rattle.signed_network.specs.Arcs.{AreArcsOf, arc_at}
+use Rattle.signed_network.specs.Networks.{AreTouching}
 use Rattle.flow_worlds.specs.Steps.{step_of}
 use Rattle.flow_worlds.specs.declared.task.Task.{Task}
 

@@ -1,6 +1,6 @@
 ghost use Rattle.std.specs.Prelude.{◌≡◌, ◌≢◌, ◌<◌, ◌≤◌, ℕ, List, All, length, true, IfOk};
 ghost use Rattle.std.specs.List.{AllPairs};
-ghost use Rattle.flow_worlds.specs.declared.arcs.Arc.{Arc as AnyArc};
+ghost use Rattle.signed_network.specs.declared.arcs.Arc.{Arc as AnyArc};
 ghost use Rattle.flow_worlds.specs.declared.steps.Step.{Step as AnyStep};
 ghost use Rattle.flow_worlds.specs.Searches.{AreVisits, IsSearchOf, is_reached, visited};
 ghost use Rattle.flow_worlds.specs.Circuits.{AreAlong, Carries, IsCircuit, IsVisited, step_at};

@@ -6,11 +6,11 @@ ghost use Rattle.flow_worlds.specs.Cuts as spec;
 ghost use Rattle.flow_worlds.specs.Flows.{IsFlow};
 ghost use Rattle.flow_worlds.specs.Tasks.{IsTask};
 
-use crate::arcs::is_same;
 use crate::search::{Search, search_from};
 use crate::steps::step_of;
 use crate::task::Task;
 use sdc_base::{Items, Memory};
+use signed_network::is_same;
 use std::alloc::Global;
 use worlds::Multipliers;
 

@@ -8,16 +8,15 @@ ghost use Rattle.flow_worlds.specs.Finds.{IsFound};
 ghost use Rattle.flow_worlds.specs.Tasks.{IsTask};
 
 use crate::answer::FlowAnswer;
-use crate::arcs::arcs_of;
 use crate::circuit::circuit_of;
 use crate::cut::{cut_of, no_multipliers};
 use crate::going::go_round;
-use crate::network::touching_of;
 use crate::search::{is_open, search_from};
 use crate::steps::{Step, is_up, step_of};
 use crate::task::Task;
 use crate::whole_world::world_of;
 use sdc_base::{Cell, Hidden, Memory, Side, System};
+use signed_network::network_of;
 use std::alloc::Global;
 use worlds::Multipliers;
 
@@ -55,18 +54,16 @@ pub fn flow(
     requires to_2_110 { target ≤ℤ pos (2 ^ 110) }
     ensures { IfOk result (λ answer. IsFlowAnswer system.now cells.now hidden.now.flags cell side target answer) }
 {
-    let arcs = arcs_of(alloc, system, signs)?;
-    let points = system.relations.as_slice().len() as u32 + 1;
     let flags = hidden.flags.as_slice();
-    let touching = touching_of(alloc, flags, arcs.as_slice(), points)?;
+    let network = network_of(alloc, system, signs, flags)?;
     let task = Task {
         system,
         cells,
         flags,
         signs,
-        arcs: arcs.as_slice(),
-        touching: touching.as_slice(),
-        asked: step_of(cell, arcs[cell as usize], is_up(side)),
+        arcs: network.arcs.as_slice(),
+        touching: network.touching.as_slice(),
+        asked: step_of(cell, network.arcs[cell as usize], is_up(side)),
     };
     raise(alloc, &task, target)
 }

@@ -3,12 +3,10 @@
 #![tactic(auto)]
 
 mod answer;
-mod arcs;
 mod circuit;
 mod cut;
 mod flows;
 mod going;
-mod network;
 mod rooms;
 mod search;
 mod steps;

@@ -1,16 +1,17 @@
 ghost use Rattle.std.specs.Prelude.{◌≡◌, ◌<◌, ℕ, length, true, false, IfOk, OnOk};
 ghost use Rattle.sdc_base.specs.HiddenSets.{is_hidden};
-ghost use Rattle.flow_worlds.specs.Arcs.{Touches, arc_at};
+ghost use Rattle.signed_network.specs.Arcs.{arc_at};
+ghost use Rattle.signed_network.specs.Networks.{Touches};
 ghost use Rattle.flow_worlds.specs.Steps as steps_specs;
 ghost use Rattle.flow_worlds.specs.Searches as spec;
 ghost use Rattle.flow_worlds.specs.Searches.{IsOpenStep, IsSearchOf, IsGone, Grows, StaysAt, StaysOver, first_step, is_reached, visited};
 ghost use Rattle.flow_worlds.specs.Tasks.{IsTask};
 
-use crate::arcs::is_same;
 use crate::rooms::has_room;
 use crate::steps::{Step, step_from};
 use crate::task::Task;
 use sdc_base::Memory;
+use signed_network::is_same;
 use std::alloc::Global;
 
 // A step that a search has gone, and the place of the one before it.

@@ -1,8 +1,8 @@
 ghost use Rattle.std.specs.Prelude.{◌≡◌};
 ghost use Rattle.flow_worlds.specs.Steps as spec;
 
-use crate::arcs::Arc;
 use sdc_base::Side;
+use signed_network::Arc;
 
 // A step over a cell from one point to another: the cell goes up along its arc, or down against it.
 #[derive(Clone, Copy)]

@@ -1,6 +1,6 @@
-use crate::arcs::Arc;
 use crate::steps::Step;
 use sdc_base::{Cell, Items, System};
+use signed_network::Arc;
 
 // What is asked, with the network of the hidden cells on which it is asked.
 #[derive(Drop)]

@@ -1,6 +1,6 @@
 -- From a cell that isn't a multiple one can go on over another, and a walk that goes round leaves fewer of them.
 use Rattle.std.proofs.Common.{◌≡◌, ◌≢◌, ◌⊎◌, inl, inr, ℕ, ◌+◌, ◌<◌, ◌≤◌, ◌==◌, Bool, true, false, List, length, All, get_or, ℤ, pos, negsuc, arith, refl, ap, sym, subst, ◌∙◌, take, drop, ◌^◌, length-drop, length-take}
-use Rattle.std.proofs.lemmas.List.{take-append-drop, get_or-take}
+use Rattle.std.proofs.lemmas.List.{take-append-drop, get_or-replicate, get_or-take}
 use Rattle.std.specs.List.Sorted.{IsNonDecreasing}
 use Rattle.std.specs.List.{Contains}
 use Rattle.std.specs.Int.RustNames.{int_div}
@@ -11,17 +11,20 @@ use Rattle.std.proofs.lemmas.List.Elements.{All-contains, All-contains_itself, A
 use Rattle.sdc_base.specs.declared.system.System.{System}
 use Rattle.sdc_base.specs.Roundings.{IsMultiple, IsRounding}
 use Rattle.sdc_base.specs.Systems.{number_at}
-use Rattle.rounding.specs.declared.arcs.Arc.{Arc}
+use Rattle.signed_network.specs.declared.arcs.Arc.{Arc}
 use Rattle.rounding.specs.declared.steps.Step.{Step}
 use Rattle.rounding.specs.Neighbours.{is_multiple}
-use Rattle.rounding.specs.Arcs.{brings_to, arc_at, cells_at, Touches, AreArcsOf, IsNetwork, IsBalanced}
-use Rattle.rounding.specs.Rings.{AreBeside, KeepMultiples}
+use Rattle.signed_network.specs.Arcs.{brings_to, arc_at, AreArcsOf}
+use Rattle.signed_network.specs.Networks.{cells_at, Touches}
+use Rattle.signed_network.specs.Balances.{IsBalanced}
+use Rattle.rounding.specs.Rings.{AreBeside, IsWholeNetwork, KeepMultiples}
 use Rattle.rounding.specs.Tasks.{IsProper}
 use Rattle.sdc_base.specs.Truths.{IsTruth}
 use Rattle.rounding.specs.Circuits.{IsAlong, IsMove, AreMoves, GoesRound}
 use Rattle.rounding.proofs.Adjacency.{no_rest, left_within}
-use Rattle.rounding.proofs.Arcing.{at_own, at_other}
-use Rattle.rounding.proofs.Balances.{not_alone, balanced_holds}
+use Rattle.signed_network.proofs.Arcing.{at_own, at_other}
+use Rattle.signed_network.proofs.Balances.{balanced_holds}
+use Rattle.rounding.proofs.Balances.{not_alone}
 use Rattle.rounding.proofs.Moving.{number_from, truth_from}
 use Rattle.rounding.proofs.NamingSteps.{read_list}
 use Rattle.rounding.proofs.Rings.{is_multiple_from, beside_is_adjacent}
@@ -31,22 +34,22 @@ use Rattle.rounding.proofs.Walking.{Walked, steps_few}
 whole_multiple : (base number : ℤ) → is_multiple base number ≡ true → IsMultiple base number
 whole_multiple base number is = (int_div number base, omega (arith, ints, quot-rem number base, no_rest base number is))
 
-pub ends_inside : (arcs : List Arc) (touching : List (List ℕ)) (step : Step) → IsNetwork arcs touching → step.cell < length arcs → IsAlong (arc_at arcs step.cell) step → step.end < length touching
+pub ends_inside : (arcs : List Arc) (touching : List (List ℕ)) (step : Step) → IsWholeNetwork arcs touching → step.cell < length arcs → IsAlong (arc_at arcs step.cell) step → step.end < length touching
 ends_inside arcs touching step network below (inl (_, start, end)) = omega (arith, end, (network.within step.cell below).1)
 ends_inside arcs touching step network below (inr (_, start, end)) = omega (arith, end, (network.within step.cell below).0)
 
 pub read_cells : (touching : List (List ℕ)) (point : ℕ) (item cells : List ℕ) → point < length touching → item ≡ get_or touching point item → cells ≡ item → cells ≡ cells_at touching point
 read_cells touching point item cells inside read is = is ∙ read_list touching point item inside read
 
-pub cells_inside : (arcs : List Arc) (touching : List (List ℕ)) (point : ℕ) → IsNetwork arcs touching → All (λ cell. cell < length arcs) (cells_at touching point)
+pub cells_inside : (arcs : List Arc) (touching : List (List ℕ)) (point : ℕ) → IsWholeNetwork arcs touching → All (λ cell. cell < length arcs) (cells_at touching point)
 cells_inside arcs touching point network =
     All-weaker (Contains (cells_at touching point)) (λ cell. cell < length arcs) (λ cell has. (network.touched.only point cell has).0) (cells_at touching point) (All-contains_itself (cells_at touching point))
 
-pub found_touches : (arcs : List Arc) (touching : List (List ℕ)) (point cell : ℕ) (arc : Arc) → IsNetwork arcs touching → Contains (cells_at touching point) cell → arc ≡ get_or arcs cell arc → (cell < length arcs) × Touches arc point × (arc ≡ arc_at arcs cell)
+pub found_touches : (arcs : List Arc) (touching : List (List ℕ)) (point cell : ℕ) (arc : Arc) → IsWholeNetwork arcs touching → Contains (cells_at touching point) cell → arc ≡ get_or arcs cell arc → (cell < length arcs) × Touches arc point × (arc ≡ arc_at arcs cell)
 found_touches arcs touching point cell arc network has read =
     let one = network.touched.only point cell has in
     let same : arc ≡ arc_at arcs cell = read ∙ get_or_any arcs cell arc (record { from = 0; to = 0 }) one.0 in
-    (one.0, subst (λ (a : Arc). Touches a point) (sym same) one.1, same)
+    (one.0, subst (λ (a : Arc). Touches a point) (sym same) one.2, same)
 
 -- what the last step brings to the point where it ends
 last_brings : (arc : Arc) (step : Step) → IsAlong arc step → step.start ≢ step.end → (brings_to arc step.end ≡ pos 1) ⊎ (brings_to arc step.end ≡ negsuc 0)
@@ -68,7 +71,7 @@ untouched_brings arc point =
     ] refl
 
 -- at the end of a step there is always another cell that isn't a multiple
-pub never_stuck : (truths : List ℤ) (base : ℤ) (arcs : List Arc) (touching : List (List ℕ)) (numbers : List ℤ) (step : Step) → IsNetwork arcs touching → length arcs ≡ length numbers → IsBalanced arcs (length touching) (number_at numbers) → AreBeside truths base numbers → IsMove base numbers step → IsAlong (arc_at arcs step.cell) step → step.start ≢ step.end
+pub never_stuck : (truths : List ℤ) (base : ℤ) (arcs : List Arc) (touching : List (List ℕ)) (numbers : List ℤ) (step : Step) → IsWholeNetwork arcs touching → length arcs ≡ length numbers → IsBalanced arcs (length touching) (number_at numbers) → AreBeside truths base numbers → IsMove base numbers step → IsAlong (arc_at arcs step.cell) step → step.start ≢ step.end
     → All (λ (cell : ℕ). (cell ≡ step.cell) ⊎ (is_multiple base (number_at numbers cell) ≡ true)) (cells_at touching step.end) → ⊥
 never_stuck truths base arcs touching numbers step network each balanced are moved along apart all =
     let below : step.cell < length arcs = omega (arith, each, moved.inside) in
@@ -81,7 +84,7 @@ never_stuck truths base arcs touching numbers step network each balanced are mov
     others other inside apart_from =
         elim (untouched_brings (arc_at arcs other) step.end) as (λ _. (brings_to (arc_at arcs other) step.end ≡ pos 0) ⊎ IsMultiple base (number_at numbers other)) [
           | inl touches ↦
-              elim (All-contains (λ (cell : ℕ). (cell ≡ step.cell) ⊎ (is_multiple base (number_at numbers cell) ≡ true)) (cells_at touching step.end) other all (network.touched.each_touching step.end other inside touches)) as (λ _. (brings_to (arc_at arcs other) step.end ≡ pos 0) ⊎ IsMultiple base (number_at numbers other)) [
+              elim (All-contains (λ (cell : ℕ). (cell ≡ step.cell) ⊎ (is_multiple base (number_at numbers cell) ≡ true)) (cells_at touching step.end) other all (network.touched.all step.end other inside (get_or-replicate (length arcs) other true false inside) touches)) as (λ _. (brings_to (arc_at arcs other) step.end ≡ pos 0) ⊎ IsMultiple base (number_at numbers other)) [
                 | inl same ↦ absurd (apart_from same)
                 | inr is ↦ inr (whole_multiple base (number_at numbers other) is)
               ]
@@ -110,7 +113,7 @@ pub record AreReadySteps (base : ℤ) (numbers : List ℤ) (steps : List Step) :
   pub some : 1 ≤ length steps
   pub few : length steps ≤ 2 ^ 32
 
-pub round_ready : (base : ℤ) (arcs : List Arc) (touching : List (List ℕ)) (numbers : List ℤ) (steps circuit : List Step) (place : ℕ) → IsNetwork arcs touching → length arcs ≡ length numbers → GoesRound arcs base numbers steps place → circuit ≡ drop place steps → AreReadySteps base numbers circuit
+pub round_ready : (base : ℤ) (arcs : List Arc) (touching : List (List ℕ)) (numbers : List ℤ) (steps circuit : List Step) (place : ℕ) → IsWholeNetwork arcs touching → length arcs ≡ length numbers → GoesRound arcs base numbers steps place → circuit ≡ drop place steps → AreReadySteps base numbers circuit
 round_ready base arcs touching numbers steps circuit place network each round is =
     let few = steps_few (length numbers) (drop place steps) round.moved.once (All-weaker (IsMove base numbers) (λ (s : Step). s.cell < length numbers) (λ s one. one.inside) (drop place steps) round.moved.each) in
     let most = network.fewer_than_2_32 in
@@ -150,7 +153,7 @@ all_rounded system signs truths base arcs points numbers values proper are many 
       adjacent = λ cell below.
           let inside : cell < length truths = omega (arith, below, proper.each) in
           beside_is_adjacent base (number_at truths cell) (number_at numbers cell) proper.from_one (truth_from truths base numbers cell beside inside).from_zero (beside.beside cell inside) (whole cell (omega (arith, inside, beside.each)));
-      hold = balanced_holds system.relations signs system.cells arcs points (number_at numbers) are system.named many balanced;
+      hold = balanced_holds system.relations signs system.cells arcs points (number_at numbers) are system.named (omega (arith, many)) balanced;
     })
 
 -- ---- the front of a list, whose cells are multiples

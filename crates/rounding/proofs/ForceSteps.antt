@@ -27,7 +27,8 @@ use Rattle.rounding.specs.Namings.{IsNaming}
 use Rattle.rounding.proofs.Adjacency.{adjacent_is_neighbour}
 use Rattle.rounding.proofs.Betweenness.{neighbour_lies}
 use Rattle.rounding.proofs.Counting.{counted_total, counted_other}
-use Rattle.rounding.proofs.FormLemmas.{form_by_cells, least_is, greatest_is, extreme_changed}
+use Rattle.signed_network.proofs.Balances.{form_by_cells}
+use Rattle.rounding.proofs.FormLemmas.{least_is, greatest_is, extreme_changed}
 use Rattle.rounding.proofs.FixSteps.{length-by_fixes, one_more_fix, set_here_or_not}
 use Rattle.rounding.proofs.SumSteps.{changed_by_set, find_number, named_at}
 use Rattle.rounding.proofs.NamingSteps.{listed_at}

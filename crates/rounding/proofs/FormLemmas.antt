@@ -4,21 +4,16 @@ use Rattle.std.proofs.lemmas.Int.{ints, by_lt_z}
 use Rattle.std.proofs.lemmas.Bool.Decides.{Decides-eqb}
 use Rattle.sdc_base.specs.declared.relation.Relation.{Relation}
 use Rattle.sdc_base.specs.Totals.{sum_below}
-use Rattle.sdc_base.specs.Forms.{form_times, count_of}
+use Rattle.sdc_base.specs.Forms.{count_of}
 use Rattle.sdc_base.specs.Systems.{Numbers, form, NamesCells}
 use Rattle.sdc_base.proofs.WholeNumbers.{distrib, times_up, times_down}
 use Rattle.sdc_base.proofs.TotalLemmas.{sum_below-add, sum_below-le, sum_below-same, only}
-use Rattle.sdc_base.proofs.WeakDual.{value_of-form_times, by_cells, terms_inside}
+use Rattle.signed_network.proofs.Balances.{form_by_cells}
 use Rattle.rounding.specs.Extremes.{extreme_numbers, extreme_of_form, change, ExtremesAreBounds}
 
 -- what a cell adds to a form
 abbrev added : Relation → Numbers → Numbers
 added r numbers cell = count_of r cell *ℤ numbers cell
-
-pub form_by_cells : (n : ℕ) (numbers : Numbers) (r : Relation) → NamesCells n r → form numbers r ≡ sum_below n (added r numbers)
-form_by_cells n numbers r named =
-    let once : pos 1 *ℤ form numbers r ≡ form numbers r = omega (arith, ints) in
-    sym once ∙ sym (value_of-form_times numbers (pos 1) r) ∙ sym (by_cells n numbers (form_times (pos 1) r) (terms_inside n (pos 1) r named))
 
 -- ---- one cell changes
 

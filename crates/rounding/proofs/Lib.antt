@@ -19,12 +19,10 @@ mod PartialSteps
 mod SearchSteps
 mod Unrounded
 mod Ordering
-mod Arcing
 mod Rings
 mod Lone
 mod Fewer
 mod Balances
-mod Touching
 mod Walking
 mod Moving
 mod Circling

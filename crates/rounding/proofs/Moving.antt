@@ -13,13 +13,13 @@ use Rattle.sdc_base.specs.Forms.{Term, coefficient}
 use Rattle.sdc_base.specs.Systems.{number_at}
 use Rattle.sdc_base.proofs.TotalLemmas.{sum_of-cons}
 use Rattle.sdc_base.proofs.WholeNumbers.{distrib}
-use Rattle.rounding.specs.declared.arcs.Arc.{Arc}
+use Rattle.signed_network.specs.declared.arcs.Arc.{Arc}
 use Rattle.rounding.specs.declared.steps.Step.{Step}
 use Rattle.rounding.specs.Neighbours.{is_multiple}
 use Rattle.rounding.specs.Choices.{unrounded_cells}
 use Rattle.sdc_base.specs.Truths.{IsTruth}
-use Rattle.rounding.specs.Arcs.{IsBalanced}
-use Rattle.rounding.specs.Rings.{IsBeside, AreBeside, KeepMultiples, room, numbers_after_turns}
+use Rattle.signed_network.specs.Balances.{IsBalanced, numbers_after_turns}
+use Rattle.rounding.specs.Rings.{IsBeside, AreBeside, KeepMultiples, room}
 use Rattle.rounding.specs.Circuits.{IsMove, AreMoves, IsWalk, step_at, room_of, turns_of}
 use Rattle.rounding.proofs.Adjacency.{left_within}
 use Rattle.rounding.proofs.FormLemmas.{Changed}
@@ -27,7 +27,8 @@ use Rattle.rounding.proofs.SumSteps.{changed_by_set}
 use Rattle.rounding.proofs.Walking.{Apart}
 use Rattle.rounding.proofs.Rings.{from_none, up_room, down_room, not_none, moved_beside, multiple_stays_put, one_becomes, IsTurn}
 use Rattle.rounding.proofs.Fewer.{fewer_from}
-use Rattle.rounding.proofs.Balances.{circuit_balanced, gone_balanced, balanced_same}
+use Rattle.signed_network.proofs.Balances.{gone_balanced}
+use Rattle.rounding.proofs.Balances.{circuit_balanced}
 
 -- ---- turns
 
@@ -182,8 +183,7 @@ goes truths base by before after steps place are moves inside least is each gone
 
 pub goes_balanced : (arcs : List Arc) (points point : ℕ) (by : ℤ) (before after : List ℤ) (steps : List Step) → IsWalk arcs point steps point → IsBalanced arcs points (number_at before) → ((c : ℕ) → number_at after c ≡ numbers_after_turns by (number_at before) (coefficient (turns_of steps)) c) → IsBalanced arcs points (number_at after)
 goes_balanced arcs points point by before after steps walk balanced is =
-    balanced_same arcs points (numbers_after_turns by (number_at before) (coefficient (turns_of steps))) (number_at after) is
-    (gone_balanced arcs points by (number_at before) (coefficient (turns_of steps)) balanced (circuit_balanced arcs points point steps walk))
+    gone_balanced arcs points by (number_at before) (coefficient (turns_of steps)) (number_at after) balanced (circuit_balanced arcs points point steps walk) is
 
 -- ---- the loop over the steps
 

@@ -13,12 +13,6 @@ use Rattle.rounding.specs.Namings.{IsNotIn, Ascends, IsNamingOf, IsNaming, AreNo
 use Rattle.rounding.proofs.Counting.{counted_other}
 use Rattle.rounding.proofs.SumSteps.{get_or_any}
 
-pub empty_more : (lists : List (List ℕ)) (one : List ℕ) (cell : ℕ) → one ≡ [] → ((c : ℕ) → get_or lists c [] ≡ []) → get_or (lists ++ one ∷ []) cell [] ≡ []
-empty_more [] one zero is empty = is
-empty_more [] one (suc cell) is empty = refl
-empty_more (first ∷ lists) one zero is empty = empty 0
-empty_more (first ∷ lists) one (suc cell) is empty = empty_more lists one cell is (λ c. empty (suc c))
-
 pub read_list : (lists : List (List ℕ)) (k : ℕ) (one : List ℕ) → k < length lists → one ≡ get_or lists k one → one ≡ get_or lists k []
 read_list lists k one inside is = is ∙ get_or_any lists k one [] inside
 

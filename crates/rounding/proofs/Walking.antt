@@ -6,9 +6,10 @@ use Rattle.std.proofs.lemmas.List.Elements.{All-head, All-tail, All-cons, All-ni
 use Rattle.std.proofs.lemmas.List.Quantifiers.{all_pairs_push}
 use Rattle.std.proofs.lemmas.Map.Keys.{IsDistinct-from_apart}
 use Rattle.std.proofs.lemmas.Map.Steps.{length-le_from_distinct_below}
-use Rattle.rounding.specs.declared.arcs.Arc.{Arc}
+use Rattle.signed_network.specs.declared.arcs.Arc.{Arc}
 use Rattle.rounding.specs.declared.steps.Step.{Step}
-use Rattle.rounding.specs.Arcs.{Touches, arc_at}
+use Rattle.signed_network.specs.Arcs.{arc_at}
+use Rattle.signed_network.specs.Networks.{Touches}
 use Rattle.rounding.specs.Circuits.{IsMove, AreMoves, IsAlong, IsChainOfSteps, start_at, GoesRound}
 
 abbrev pub Walked : List Arc → Step → Type 0

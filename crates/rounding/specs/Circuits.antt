@@ -5,8 +5,8 @@ use Rattle.sdc_base.specs.Forms.{Term}
 use Rattle.sdc_base.specs.Systems.{number_at}
 use Rattle.rounding.specs.Neighbours.{is_multiple}
 use Rattle.rounding.specs.Rings.{room}
-use Rattle.rounding.specs.Arcs.{arc_at}
-use Rattle.rounding.specs.declared.arcs.Arc.{Arc}
+use Rattle.signed_network.specs.Arcs.{arc_at}
+use Rattle.signed_network.specs.declared.arcs.Arc.{Arc}
 use Rattle.rounding.specs.declared.steps.Step.{Step}
 
 -- a step moves a cell that isn't a multiple up or down by one

@@ -9,6 +9,5 @@ pub mod FixedSteps
 pub mod Searches
 pub mod PartialLists
 pub mod SearchOrder
-pub mod Arcs
 pub mod Rings
 pub mod Circuits

@@ -1,7 +1,6 @@
 //! Controlled rounding: each cell at a multiple of a base next to its truth, so that tables still add up.
 #![tactic(auto)]
 
-mod arcs;
 mod bounds;
 mod cycles;
 mod fault;
@@ -10,7 +9,6 @@ mod forms;
 mod laws;
 mod naming;
 mod neighbours;
-mod network;
 mod numbers;
 mod partial;
 mod rounding;

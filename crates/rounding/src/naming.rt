@@ -1,8 +1,9 @@
-ghost use Rattle.std.specs.Prelude.{◌≡◌, ◌<◌, ◌+◌, ℕ, length, IfOk, OnOk, slice_set, slice_index_or, []};
+ghost use Rattle.std.specs.Prelude.{◌<◌, ◌+◌, ℕ, length, IfOk, OnOk, slice_set, slice_index_or, []};
 ghost use Rattle.rounding.specs.Namings.{IsNaming, AreNoted, IsNotedMore, IsNotedWhole, IsNotIn, Ascends};
 ghost use Rattle.sdc_base.specs.Systems.{NamesCells};
 
 use sdc_base::{Items, Memory, Relation, System};
+use signed_network::empty_lists;
 use std::alloc::Global;
 
 // For each cell the numbers of the relations that name it, ascending.
@@ -15,18 +16,6 @@ pub(crate) fn naming_of(alloc: Global, system: &System) -> Result<Vec<Items<u32>
         note_cells(&mut naming, number as u32, relation)?;
     }
     Ok(naming)
-}
-
-// So many empty lists.
-pub(crate) fn empty_lists(alloc: Global, count: u32) -> Result<Vec<Items<u32>>, Memory>
-    ensures many { IfOk result (λ lists. length lists.items ≡ count) }
-    ensures empty { IfOk result (λ lists. (cell : ℕ) → slice_index_or lists.items cell [] ≡ []) }
-{
-    let mut lists = Vec::new(alloc);
-    'lists: for _ in 0..count {
-        lists.push(Items::empty(alloc))?;
-    }
-    Ok(lists)
 }
 
 // Notes a relation's number at each cell that it names, behind the numbers of earlier relations.

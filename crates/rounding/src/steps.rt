@@ -1,8 +1,8 @@
 ghost use Rattle.std.specs.Prelude.{◌≡◌, ◌≢◌, ◌<◌, All, length, IfSome, IfNone};
-ghost use Rattle.rounding.specs.Arcs.{Touches};
+ghost use Rattle.signed_network.specs.Networks.{Touches};
 ghost use Rattle.rounding.specs.Circuits.{IsAlong, start_at};
 
-use crate::arcs::Arc;
+use signed_network::Arc;
 
 // A step over a cell from one point to another: its number goes up by one along its arc, or down by one against it.
 #[derive(Clone, Copy)]

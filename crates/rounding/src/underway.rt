@@ -1,11 +1,11 @@
 ghost use Rattle.std.specs.Prelude.{◌≡◌, ◌⊎◌, ◌<◌, ◌≤◌, ◌^◌, ◌≤ℤ◌, ◌*ℤ◌, ℕ, List, All, pos, negsuc, length};
 ghost use Rattle.sdc_base.specs.Forms.{coefficient};
 ghost use Rattle.sdc_base.specs.Systems.{number_at};
-ghost use Rattle.rounding.specs.declared.arcs.Arc.{Arc as AnyArc};
+ghost use Rattle.signed_network.specs.declared.arcs.Arc.{Arc as AnyArc};
 ghost use Rattle.rounding.specs.Neighbours as spec;
 ghost use Rattle.rounding.specs.Choices.{unrounded_cells};
-ghost use Rattle.rounding.specs.Arcs.{IsBalanced};
-ghost use Rattle.rounding.specs.Rings.{AreBeside, KeepMultiples, numbers_after_turns};
+ghost use Rattle.signed_network.specs.Balances.{IsBalanced, numbers_after_turns};
+ghost use Rattle.rounding.specs.Rings.{AreBeside, KeepMultiples};
 ghost use Rattle.rounding.specs.Circuits.{AreMoves, IsMove, IsWalk, room_of, step_at, turns_of};
 
 use crate::neighbours::{is_multiple, room};

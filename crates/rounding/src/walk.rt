@@ -3,14 +3,14 @@ ghost use Rattle.std.specs.List.{Contains};
 ghost use Rattle.std.specs.List.Sorted.{IsNonDecreasing};
 ghost use Rattle.sdc_base.specs.Systems.{number_at};
 ghost use Rattle.rounding.specs.Neighbours as spec;
-ghost use Rattle.rounding.specs.Arcs.{arc_at};
+ghost use Rattle.signed_network.specs.Arcs.{arc_at};
 ghost use Rattle.rounding.specs.Rings.{AreBeside, AreWholeBelow, IsBalancedBeside};
 ghost use Rattle.rounding.specs.Circuits.{IsMove, IsAlong, GoesRound};
 
-use crate::network::Network;
 use crate::steps::{Step, place_of_start, step_from};
 use crate::underway::{Task, is_whole};
 use sdc_base::Memory;
+use signed_network::Network;
 use std::alloc::Global;
 
 // A walk over cells that aren't multiples, which goes round from one of its steps on.

@@ -2,8 +2,9 @@ use Rattle.std.proofs.Common.{◌≡◌, ◌<◌, ℕ, List, All, length, get_or
 use Rattle.std.proofs.lemmas.List.{take_all}
 use Rattle.flow_worlds.specs.declared.search.Visit.{Visit}
 use Rattle.flow_worlds.specs.declared.steps.Step.{Step}
-use Rattle.flow_worlds.specs.Arcs.{Touches, arc_at}
-use Rattle.flow_worlds.specs.Networks.{cells_at}
+use Rattle.signed_network.specs.Arcs.{arc_at}
+use Rattle.signed_network.specs.Networks.{Touches}
+use Rattle.signed_network.specs.Networks.{cells_at}
 use Rattle.flow_worlds.specs.Searches.{IsSearchOf, StaysOver, first_step, is_reached, visited}
 use Rattle.flow_worlds.proofs.Searching.{all_over, more_over, grown_on, read_visit, read_cells, cell_there, visit_end_within}
 use Rattle.flow_worlds.proofs.search.go_on.Goals as goal

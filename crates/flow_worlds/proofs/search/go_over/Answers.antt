@@ -1,7 +1,7 @@
 use Rattle.std.proofs.Common.{refl, sym, ◌∙◌, ap}
 use Rattle.flow_worlds.specs.declared.search.Visit.{Visit}
 use Rattle.flow_worlds.specs.Steps.{step_from}
-use Rattle.flow_worlds.specs.Arcs.{arc_at}
+use Rattle.signed_network.specs.Arcs.{arc_at}
 use Rattle.flow_worlds.specs.Searches.{first_step}
 use Rattle.flow_worlds.proofs.Searching.{IsNext, gone_on, read_visit, flag_unmet}
 use Rattle.flow_worlds.proofs.search.go_over.Goals as goal

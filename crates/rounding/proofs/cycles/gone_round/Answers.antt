@@ -2,9 +2,9 @@ use Rattle.std.proofs.Common.{◌≡◌, ◌∙◌, List, ℤ, length, arith, ru
 use Rattle.std.specs.Int.{w128}
 use Rattle.std.proofs.lemmas.Int.{to_z-of_z}
 use Rattle.sdc_base.specs.Systems.{number_at}
-use Rattle.rounding.specs.Arcs.{IsBalanced}
+use Rattle.signed_network.specs.Balances.{IsBalanced}
 use Rattle.rounding.specs.Rings.{AreBeside}
-use Rattle.rounding.proofs.Balances.{held_balanced}
+use Rattle.signed_network.proofs.Balances.{held_balanced}
 use Rattle.rounding.proofs.Circling.{start_beside, all_rounded}
 use Rattle.rounding.proofs.cycles.gone_round.Goals as goal
 

@@ -1,7 +1,7 @@
 use Rattle.std.proofs.Common.{length}
 use Rattle.sdc_base.specs.Systems.{number_at}
 use Rattle.rounding.specs.Choices.{unrounded_cells}
-use Rattle.rounding.specs.Arcs.{IsBalanced}
+use Rattle.signed_network.specs.Balances.{IsBalanced}
 use Rattle.rounding.specs.Rings.{AreBeside, KeepMultiples}
 use Rattle.rounding.proofs.cycles.round_cell.Given as goal
 

@@ -1,7 +1,7 @@
 use Rattle.std.proofs.Common.{◌≡◌, ◌<◌, ℕ, true, length}
 use Rattle.sdc_base.specs.Systems.{number_at}
 use Rattle.rounding.specs.Neighbours.{is_multiple}
-use Rattle.rounding.specs.Arcs.{IsBalanced}
+use Rattle.signed_network.specs.Balances.{IsBalanced}
 use Rattle.rounding.specs.Rings.{AreBeside}
 use Rattle.rounding.proofs.cycles.round_cells.Given as goal
 

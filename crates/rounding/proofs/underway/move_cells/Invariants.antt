@@ -1,7 +1,7 @@
 use Rattle.std.proofs.Common.{◌≡◌, ℕ, take}
 use Rattle.sdc_base.specs.Forms.{coefficient}
 use Rattle.sdc_base.specs.Systems.{number_at}
-use Rattle.rounding.specs.Rings.{numbers_after_turns}
+use Rattle.signed_network.specs.Balances.{numbers_after_turns}
 use Rattle.rounding.specs.Circuits.{turns_of}
 use Rattle.rounding.proofs.Moving.{AreNearRange}
 use Rattle.rounding.proofs.underway.move_cells.Given as goal

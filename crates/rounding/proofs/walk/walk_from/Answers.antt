@@ -1,6 +1,6 @@
 use Rattle.std.proofs.Common.{◌∙◌, ◌<◌, ◌-◌, ◌∷◌, [], List, length, length-append, arith, ap}
 use Rattle.rounding.specs.declared.steps.Step.{Step}
-use Rattle.rounding.specs.Arcs.{arc_at}
+use Rattle.signed_network.specs.Arcs.{arc_at}
 use Rattle.rounding.proofs.Circling.{read_step, from_read}
 use Rattle.rounding.proofs.Walking.{starts, goes_round, ends_apart, goes_on, walk_short}
 use Rattle.rounding.proofs.walk.walk_from.Goals as goal

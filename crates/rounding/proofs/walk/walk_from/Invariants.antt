@@ -1,5 +1,5 @@
 use Rattle.std.proofs.Common.{◌-◌, length}
-use Rattle.rounding.specs.Arcs.{arc_at}
+use Rattle.signed_network.specs.Arcs.{arc_at}
 use Rattle.rounding.proofs.Walking.{IsOnTheWay}
 use Rattle.rounding.proofs.walk.walk_from.Given as goal
 

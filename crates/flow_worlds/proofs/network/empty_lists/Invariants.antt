@@ -1,8 +1,0 @@
-use Rattle.std.proofs.Common.{◌≡◌, ℕ, [], length, get_or}
-use Rattle.flow_worlds.proofs.network.empty_lists.Given as goal
-
-abbrev pub invariant-lists : goal.invariant-lists
-invariant-lists l = record {
-  many : length l.lists.items ≡ l.counter;
-  empty : (cell : ℕ) → get_or l.lists.items cell [] ≡ [];
-}

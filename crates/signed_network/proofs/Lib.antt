@@ -1,0 +1,3 @@
+pub mod Arcing
+mod Touching
+pub mod Balances

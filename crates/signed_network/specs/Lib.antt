@@ -1,0 +1,3 @@
+pub mod Arcs
+pub mod Networks
+pub mod Balances
