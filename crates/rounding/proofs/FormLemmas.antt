@@ -3,7 +3,6 @@ use Rattle.std.proofs.Common.{◌≡◌, ◌⊎◌, inl, inr, ℕ, ◌<◌, ◌=
 use Rattle.std.proofs.lemmas.Int.{ints, by_lt_z}
 use Rattle.std.proofs.lemmas.Bool.Decides.{Decides-eqb}
 use Rattle.sdc_base.specs.declared.relation.Relation.{Relation}
-use Rattle.sdc_base.specs.Totals.{sum_below}
 use Rattle.sdc_base.specs.Forms.{count_of}
 use Rattle.sdc_base.specs.Systems.{Numbers, form, NamesCells}
 use Rattle.sdc_base.proofs.WholeNumbers.{distrib, times_up, times_down}
