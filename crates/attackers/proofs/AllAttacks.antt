@@ -1,7 +1,6 @@
 -- All attacks: each is one, and sets with more cells hidden guard against more.
 use Rattle.std.proofs.Common.{◌≡◌, ℕ, zero, suc, ◌<◌, inl, inr, ◌&&◌, ◌||◌, not, nat_lt, Bool, true, false, List, [], ◌∷◌, length, map, filter, fold, flat_map, get_or, All, Option, None, Some, refl, ap, sym, ◌∙◌, subst, arith, if◌then◌else◌}
 use Rattle.std.specs.List.{list_any}
-use Rattle.std.specs.Option.{option_map_or}
 use Rattle.std.specs.Ordering.{nat_cmp}
 use Rattle.std.specs.BTreeSet.{insert_key}
 use Rattle.std.proofs.lemmas.Bool.Decides.{Decides-eqb, nat_tests}
@@ -9,16 +8,14 @@ use Rattle.std.proofs.lemmas.List.Elements.{All-nil, All-cons, All-head, All-tai
 use Rattle.std.proofs.lemmas.Map.Views.{All-insert_key}
 use Rattle.std.proofs.lemmas.Option.{slice_get-get_or}
 use Rattle.sdc_base.specs.declared.cell.Cell.{Cell}
-use Rattle.sdc_base.specs.declared.cell.Kind.TheVariants.{Primary}
 use Rattle.sdc_base.specs.declared.side.Side.{Side}
-use Rattle.sdc_base.specs.Kinds.{is_primary, is_primary_at}
+use Rattle.sdc_base.specs.Kinds.{is_primary_at}
 use Rattle.sdc_base.specs.HiddenSets.{is_hidden, hide, hide_cells}
 use Rattle.worlds.specs.declared.world.World.{World}
 use Rattle.worlds.specs.ProtectFaults.{asked_of}
 use Rattle.worlds.proofs.TrueTests.{both_true, not_true}
-use Rattle.repair.specs.HidingOrder.{IsOfKind}
 use Rattle.repair.proofs.Flags.{IsWithin, by_test, clash, same_or_other, hidden_here, hidden_other, within_itself, within_both}
-use Rattle.repair.proofs.Order.{asked_primary}
+use Rattle.repair.proofs.Order.{asked_primary, primary_by}
 use Rattle.attackers.specs.declared.attack.Attack.{Attack}
 use Rattle.attackers.specs.Alone.{is_sole}
 use Rattle.attackers.specs.KnownCells.{is_known, IsAttack, serves}
@@ -70,12 +67,9 @@ rows_make_up soles =
 
 -- ---- attacks
 
-pub primary_test : (cells : List Cell) (number : ℕ) → IsOfKind cells number Primary → is_primary_at cells number ≡ true
-primary_test cells number is = ap (λ o. option_map_or (λ (one : Cell). is_primary one.kind) o false) is.found ∙ ap is_primary is.is_kind
-
 -- all that is asked about is primary
 pub all_primary : (cells : List Cell) → All (λ (asked : ℕ × Side). is_primary_at cells asked.0 ≡ true) (asked_of 0 cells)
-all_primary cells k d within = primary_test cells (get_or (asked_of 0 cells) k d).0 (asked_primary cells k (get_or (asked_of 0 cells) k d) (slice_get-get_or (asked_of 0 cells) k d within))
+all_primary cells k d within = primary_by cells (get_or (asked_of 0 cells) k d).0 (asked_primary cells k (get_or (asked_of 0 cells) k d) (slice_get-get_or (asked_of 0 cells) k d within))
 
 attack_is : (cells : List Cell) (soles : List (Option ℕ)) (row : ℕ) (asked : ℕ × Side) → list_any (is_sole row) soles ≡ true → is_primary_at cells asked.0 ≡ true → is_known soles row asked.0 ≡ false → IsAttack cells soles (attack_by row asked)
 attack_is cells soles row asked makes primary unknown =

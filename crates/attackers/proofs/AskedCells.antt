@@ -1,12 +1,10 @@
 -- What is asked about primary cells, and attacks on them.
-use Rattle.std.proofs.Common.{◌≡◌, ◌&&◌, ◌<◌, ℕ, true, false, not, List, length, All, Option, None, Some, get_or, slice_get, refl, subst}
-use Rattle.std.specs.Option.{option_map_or}
+use Rattle.std.proofs.Common.{◌≡◌, ◌&&◌, ◌<◌, ℕ, true, false, not, List, length, All, Option, Some, get_or, slice_get, subst}
 use Rattle.std.specs.List.{list_any}
 use Rattle.worlds.proofs.TrueTests.{and_true, not_true}
 use Rattle.sdc_base.specs.declared.cell.Kind.TheVariants.{Primary}
-use Rattle.sdc_base.specs.Kinds.{is_primary, is_primary_at}
+use Rattle.sdc_base.specs.Kinds.{is_primary_at}
 use Rattle.repair.specs.HidingOrder.{IsOfKind}
-use Rattle.repair.proofs.Order.{primary_is}
 use Rattle.attackers.specs.declared.attack.Attack.{Attack}
 use Rattle.attackers.specs.Alone.{is_sole}
 use Rattle.attackers.specs.KnownCells.{is_known, IsAttack}
@@ -14,19 +12,11 @@ use Rattle.std.proofs.lemmas.Option.{slice_get-get_or, slice_get_within, get_or_
 use Rattle.sdc_base.specs.declared.cell.Cell.{Cell}
 use Rattle.sdc_base.specs.declared.side.Side.{Side}
 use Rattle.worlds.specs.ProtectFaults.{asked_of}
-use Rattle.repair.proofs.Order.{asked_inside}
+use Rattle.repair.proofs.Order.{asked_inside, primary_here}
 
 -- all that is asked about are cells
 pub all_inside : (cells : List Cell) → All (λ (one : ℕ × Side). one.0 < length cells) (asked_of 0 cells)
 all_inside cells k d within = asked_inside cells k (get_or (asked_of 0 cells) k d) (slice_get-get_or (asked_of 0 cells) k d within)
-
--- a cell that is primary by the test
-pub primary_here : (cells : List Cell) (number : ℕ) → is_primary_at cells number ≡ true → IsOfKind cells number Primary
-primary_here cells number is =
-    elim (slice_get cells number) as (λ o. slice_get cells number ≡ o → option_map_or (λ (one : Cell). is_primary one.kind) o false ≡ true → IsOfKind cells number Primary) [
-      | None ↦ λ found test. absurd cc
-      | Some cell ↦ λ found test. record { cell = cell; found = found; is_kind = primary_is cell.kind test }
-    ] refl is
 
 -- what holds of an attack
 pub record AttackSays (cells : List Cell) (soles : List (Option ℕ)) (attack : Attack) : Type 0 where

@@ -1,10 +1,10 @@
 -- Each attack is among those that are listed.
-use Rattle.std.proofs.Common.{◌≡◌, ℕ, zero, suc, ◌+◌, ◌==◌, ◌||◌, not, Bool, true, false, cond, Less, Equal, Greater, List, [], ◌∷◌, ◌++◌, map, filter, fold, flat_map, slice_get, All, Option, None, Some, refl, sym, subst, arith}
+use Rattle.std.proofs.Common.{◌≡◌, ℕ, zero, suc, ◌+◌, ◌==◌, ◌||◌, not, Bool, true, false, cond, Less, Equal, Greater, List, [], ◌∷◌, ◌++◌, map, filter, fold, flat_map, slice_get, Option, None, Some, refl, sym, subst, arith}
 use Rattle.std.specs.List.{AllByRecursion, list_any}
 use Rattle.std.specs.Ordering.{nat_cmp, match_ordering}
 use Rattle.std.specs.BTreeSet.{insert_key}
 use Rattle.std.proofs.lemmas.Bool.Decides.{Decides-eqb}
-use Rattle.std.proofs.lemmas.List.Elements.{All-head, All-tail}
+use Rattle.std.proofs.lemmas.List.Elements.{recursion_from_All}
 use Rattle.std.proofs.lemmas.Map.Lookups.{exact_unsigned}
 use Rattle.sdc_base.specs.Kinds.{is_primary}
 use Rattle.sdc_base.specs.declared.cell.Cell.{Cell}
@@ -17,10 +17,6 @@ use Rattle.attackers.specs.KnownCells.{is_known, Guards}
 use Rattle.attackers.specs.AttackOrder.{with_row, sole_rows, attack_by, attacks_on, attacks_of}
 use Rattle.attackers.specs.Laws.{GuardsEach}
 use Rattle.attackers.proofs.AskedCells.{attack_says}
-
-by_all : {X : Type 0} (P : X → Type 0) (xs : List X) → All P xs → AllByRecursion P xs
-by_all P [] all = tt
-by_all P (x ∷ xs) all = (All-head P x xs all, by_all P xs (All-tail P x xs all))
 
 -- ---- lists of lists, images and what passes a test
 
@@ -97,7 +93,7 @@ pub guards_each : GuardsEach
 guards_each c soles flags all attack is =
     let P : Attack → Type 0 = Guards c soles flags in
     let says = attack_says c.cells soles attack is in
-    let each = in_lists P (attacks_on soles (asked_of 0 c.cells)) (sole_rows soles) (by_all P (attacks_of c.cells soles) all) in
+    let each = in_lists P (attacks_on soles (asked_of 0 c.cells)) (sole_rows soles) (recursion_from_All P (attacks_of c.cells soles) all) in
     let own = (in_rows (λ row. AllByRecursion P (attacks_on soles (asked_of 0 c.cells) row)) soles [] attack.row each).1 says.makes_up in
     let unknown = λ (one : ℕ × Side). not (is_known soles attack.row one.0) in
     let asked = in_passing (λ one. P (attack_by attack.row one)) unknown (asked_of 0 c.cells) (in_image P (attack_by attack.row) (filter unknown (asked_of 0 c.cells)) own) in

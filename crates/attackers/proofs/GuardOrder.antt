@@ -2,7 +2,7 @@
 use Rattle.std.proofs.Common.{◌≡◌, ℕ, zero, suc, ◌+◌, ◌*◌, ◌<◌, ◌≤◌, ◌==◌, ◌&&◌, ◌||◌, not, nat_le, Bool, true, false, List, [], ◌∷◌, ◌++◌, length, filter, flat_map, get_or, slice_get, All, Option, Some, Result, Ok, Err, refl, ap, sym, ◌∙◌, subst, arith, if◌then◌else◌}
 use Rattle.std.specs.List.{list_any}
 use Rattle.std.proofs.lemmas.Bool.Decides.{Decides-eqb, nat_tests}
-use Rattle.std.proofs.lemmas.List.Elements.{All-nil, All-cons, All-head, All-tail, All-append}
+use Rattle.std.proofs.lemmas.List.Elements.{All-nil, All-cons, All-head, All-tail, All-append, All-filter}
 use Rattle.sdc_base.specs.Steps.{◌>>=◌, refuse, map_fault}
 use Rattle.sdc_base.proofs.StepLemmas.{bind_ok}
 use Rattle.sdc_base.specs.Kinds.{is_primary, is_primary_at}
@@ -27,10 +27,9 @@ use Rattle.attackers.specs.declared.faults.ExtraFault.TheVariants as fault
 use Rattle.attackers.specs.KnownCells.{serves, is_served, IsAttack, Guards}
 use Rattle.attackers.specs.ExtraFaults.{rank_of, may_be_guard, guard_cells_fault, guards_fault, open_fault, attacks_fault}
 use Rattle.attackers.specs.Guarding.{is_for, guards_in_order, lines_of}
-use Rattle.attackers.proofs.AllAttacks.{primary_test}
+use Rattle.repair.proofs.Order.{primary_by}
 use Rattle.attackers.proofs.Holding.{any_left, any_right, any_passing}
 use Rattle.attackers.proofs.Knowing.{serving_guards}
-use Rattle.attackers.proofs.Tries.{All-passing}
 
 -- ---- order
 
@@ -57,7 +56,7 @@ guards_front cells k least asked (line ∷ guards) rest below primary onward =
     elim (is_for asked line) as (λ b. is_for asked line ≡ b → guard_cells_fault cells k least ((if b then line ∷ filter (is_for asked) guards else filter (is_for asked) guards) ++ rest) ≡ Ok tt) [
       | true ↦ λ is.
           let same : rank_of line ≡ rank asked = (Decides-eqb (rank_of line) (rank asked)).0 is in
-          let may : may_be_guard cells least line ≡ true = may_here (primary_test cells line.cell (All-head (λ (l : WorldLine). IsOfKind cells l.cell Primary) line guards primary)) (grind (arith, nat_tests, below, same)) in
+          let may : may_be_guard cells least line ≡ true = may_here (primary_by cells line.cell (All-head (λ (l : WorldLine). IsOfKind cells l.cell Primary) line guards primary)) (grind (arith, nat_tests, below, same)) in
           then_ok (refuse (fault.GuardCell k) (not (may_be_guard cells least line))) (λ _. guard_cells_fault cells (k + 1) (rank_of line) (filter (is_for asked) guards ++ rest)) tt tt
           (passes (fault.GuardCell k) (not (may_be_guard cells least line)) (ap not may))
           (guards_front cells (k + 1) (rank_of line) asked guards rest (omega (arith, same)) (All-tail (λ (l : WorldLine). IsOfKind cells l.cell Primary) line guards primary) onward)
@@ -82,7 +81,7 @@ guard_cells_pass cells guards primary = order_passes cells 0 0 (asked_of 0 cells
 pub All-in_order : (P : WorldLine → Type 0) (asked : List (ℕ × Side)) (guards : List WorldLine) → All P guards → All P (guards_in_order asked guards)
 All-in_order P [] guards all = All-nil P
 All-in_order P (one ∷ asked) guards all =
-    All-append P (filter (is_for one) guards) (guards_in_order asked guards) (All-passing P P (is_for one) guards (λ line is test. is) all) (All-in_order P asked guards all)
+    All-append P (filter (is_for one) guards) (guards_in_order asked guards) (All-filter (is_for one) P guards all) (All-in_order P asked guards all)
 
 pub guards_pass : (c : Case) (flags : List Bool) (k : ℕ) (guards : List WorldLine) → length c.cells ≡ c.system.cells → All (λ (line : WorldLine). IsGivenWorld c.system c.cells flags line.world) guards → guards_fault c flags k guards ≡ Ok tt
 guards_pass c flags k [] one_each are = refl

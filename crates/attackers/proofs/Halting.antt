@@ -21,7 +21,8 @@ use Rattle.attackers.specs.AttackOrder.{IsThinned}
 use Rattle.attackers.specs.Extras.{attack_of, subjects_of, IsInTurn, EachExtra}
 use Rattle.attackers.specs.ContributorTasks.{case_of, IsExtendedUpTo, IsAsked, IsHalted, IsCannot}
 use Rattle.attackers.specs.Dropping.{is_beside, AreDropped, IsTryStop, TriesStopFor}
-use Rattle.attackers.specs.GuardStops.{list_with_fault, row_with_fault, IsGuardStop, StopsFor, IsStopAsTold}
+use Rattle.repair.specs.Stops.{list_with_fault}
+use Rattle.attackers.specs.GuardStops.{row_with_fault, IsGuardStop, StopsFor, IsStopAsTold}
 use Rattle.attackers.proofs.AllAttacks.{within_cells, within_one}
 use Rattle.attackers.proofs.Knowing.{guards_more}
 use Rattle.attackers.proofs.Thinning.{thinned_all, spot, spot_stands, spot_before, spot_order}

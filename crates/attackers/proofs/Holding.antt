@@ -1,8 +1,8 @@
 -- Guards that hold against attacks.
-use Rattle.std.proofs.Common.{◌≡◌, ℕ, zero, suc, ◌+◌, ◌<◌, ◌||◌, pos, Bool, true, false, List, [], ◌∷◌, ◌++◌, length, take, filter, get_or, slice_get, if◌then◌else◌, All, Option, Some, Result, Ok, Err, IfOk, IfErr, ap, sym, ◌∙◌, subst, arith}
+use Rattle.std.proofs.Common.{◌≡◌, ℕ, zero, suc, ◌+◌, ◌<◌, ◌||◌, pos, Bool, true, false, List, [], ◌∷◌, ◌++◌, length, take, filter, get_or, slice_get, if◌then◌else◌, All, Option, Some, ap, sym, ◌∙◌, subst, arith}
 use Rattle.std.specs.List.{list_any}
 use Rattle.std.proofs.lemmas.List.{take_more}
-use Rattle.std.proofs.lemmas.List.Elements.{All-nil, All-head, All-tail, All-cons, All-append}
+use Rattle.std.proofs.lemmas.List.Elements.{All-nil, All-head, All-tail, All-cons, All-append, All-take}
 use Rattle.std.proofs.lemmas.Option.{slice_get_within, get_or_from_slice_get}
 use Rattle.sdc_base.specs.Signs.{AreSigns}
 use Rattle.sdc_base.specs.declared.cell.Kind.TheVariants.{Primary}
@@ -75,13 +75,8 @@ pub held_guards : (c : Case) (soles : List (Option ℕ)) (flags : List Bool) (at
 held_guards c soles flags attacks guards are held =
     λ k d within. served_guards c soles flags (get_or attacks k d) guards (are k d within) held.are_worlds (held.served k d within)
 
-pub All-taken : {X : Type 0} (P : X → Type 0) (n : ℕ) (xs : List X) → All P xs → All P (take n xs)
-All-taken P zero xs all = All-nil P
-All-taken P (suc n) [] all = All-nil P
-All-taken P (suc n) (x ∷ xs) all = All-cons P x (take n xs) (All-head P x xs all) (All-taken P n xs (All-tail P x xs all))
-
 pub held_before : (c : Case) (soles : List (Option ℕ)) (flags : List Bool) (attacks : List Attack) (place : ℕ) (guards : List WorldLine) → All (IsAttack c.cells soles) attacks → HoldGuards c soles flags (take place attacks) guards → GuardsBefore c soles flags attacks place
-held_before c soles flags attacks place guards are held = held_guards c soles flags (take place attacks) guards (All-taken (IsAttack c.cells soles) place attacks are) held
+held_before c soles flags attacks place guards are held = held_guards c soles flags (take place attacks) guards (All-take (IsAttack c.cells soles) place attacks are) held
 
 -- they hold for a larger set
 pub held_more : (c : Case) (soles : List (Option ℕ)) (flags more : List Bool) (attacks : List Attack) (guards : List WorldLine) → IsWithin flags more → HoldGuards c soles flags attacks guards → HoldGuards c soles more attacks guards
@@ -121,13 +116,3 @@ held_by_new c soles flags attacks place attack guards line stands is primary doe
     held_next c soles flags attacks place attack (guards ++ line ∷ []) stands
     (any_right (λ (l : WorldLine). serves c.cells soles attack l.world) guards (line ∷ []) (any_one (λ (l : WorldLine). serves c.cells soles attack l.world) line does))
     (held_with c soles flags (take place attacks) guards line is primary unit held)
-
--- ---- answers
-
-pub ok_both : {A F : Type 0} {P Q R : A → Type 0} (r : Result A F) → IfOk r P → IfOk r Q → ((x : A) → P x → Q x → R x) → IfOk r R
-ok_both (Ok x) p q f = f x p q
-ok_both (Err e) p q f = tt
-
-pub err_where : {A F : Type 0} {P Q : F → Type 0} (r : Result A F) → IfErr r P → ((e : F) → P e → Q e) → IfErr r Q
-err_where (Ok x) p f = tt
-err_where (Err e) p f = f e p

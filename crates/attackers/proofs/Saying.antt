@@ -2,7 +2,7 @@
 use Rattle.std.proofs.Common.{◌≡◌, ◌≢◌, ℕ, ◌+◌, ◌≤◌, nat_le, ◌&&◌, not, Bool, true, List, [], ◌∷◌, ◌++◌, map, All, Option, Ok, pos, refl, arith}
 use Rattle.std.specs.List.{AllByRecursion}
 use Rattle.std.proofs.lemmas.Bool.Decides.{nat_tests}
-use Rattle.std.proofs.lemmas.List.Elements.{All-head, All-tail}
+use Rattle.std.proofs.lemmas.List.Elements.{All-head, All-tail, recursion_from_All}
 use Rattle.sdc_base.specs.Forms.{Term}
 use Rattle.sdc_base.specs.Steps.{◌>>=◌, refuse}
 use Rattle.sdc_base.proofs.StepLemmas.{bind_ok}
@@ -32,10 +32,6 @@ use Rattle.attackers.proofs.Listed.{NeedsSay, needs_say}
 
 le_true : (a b : ℕ) → a ≤ b → nat_le a b ≡ true
 le_true a b h = grind (arith, nat_tests, h)
-
-by_all : {X : Type 0} (P : X → Type 0) (xs : List X) → All P xs → AllByRecursion P xs
-by_all P [] all = tt
-by_all P (x ∷ xs) all = (All-head P x xs all, by_all P xs (All-tail P x xs all))
 
 -- extra cells without a fault ascend
 cells_ascend : (cells : List Cell) (flags : List Bool) (k least : ℕ) (extras : List ℕ) → cells_fault cells flags k least extras ≡ Ok tt → ascends_from least extras ≡ true
@@ -70,7 +66,7 @@ needs_said c soles flags (need ∷ needs) said are =
         row = said need.row (attack_says c.cells soles (attack_of need) is.on).makes_up;
         den = is.refutes.is_refutation.q_positive;
         ascending = terms_ascend 0 need.multipliers.by_relation is.refutes.listed.ascending;
-        counting = by_all (λ term. term.1 ≢ pos 0) need.multipliers.by_relation is.refutes.listed.counting;
+        counting = recursion_from_All (λ term. term.1 ≢ pos 0) need.multipliers.by_relation is.refutes.listed.counting;
       },
       needs_said c soles flags needs said (All-tail (IsExtraNeed c soles flags) need needs are),
     )

@@ -1,8 +1,8 @@
 -- Extra cells tried as shown, one after another.
-use Rattle.std.proofs.Common.{◌≡◌, ◌≢◌, ℕ, zero, suc, ◌+◌, ◌<◌, inl, inr, ◌==◌, ◌&&◌, not, nat_lt, Bool, true, false, List, [], ◌∷◌, ◌++◌, length, filter, slice_set, All, Option, refl, ap, sym, ◌∙◌, subst, arith, add-one, if◌then◌else◌}
+use Rattle.std.proofs.Common.{◌≡◌, ◌≢◌, ℕ, zero, suc, ◌+◌, ◌<◌, inl, inr, ◌==◌, ◌&&◌, not, nat_lt, Bool, true, false, List, [], ◌∷◌, ◌++◌, length, length-set, filter, slice_set, All, Option, refl, ap, sym, ◌∙◌, subst, arith, add-one, if◌then◌else◌}
 use Rattle.std.specs.List.{list_any, range_with_len}
 use Rattle.std.proofs.lemmas.List.{get_or-set_other, map-append, append-nil}
-use Rattle.std.proofs.lemmas.List.Elements.{All-nil, All-head, All-tail, All-cons, All-append, All-weaker, filter-append}
+use Rattle.std.proofs.lemmas.List.Elements.{All-nil, All-head, All-tail, All-cons, All-append, All-filter, All-weaker, filter-append}
 use Rattle.std.proofs.lemmas.Option.{slice_get_within, get_or_from_slice_get}
 use Rattle.sdc_base.specs.declared.cell.Cell.{Cell}
 use Rattle.sdc_base.specs.declared.cell.Kind.TheVariants.{Primary}
@@ -26,7 +26,7 @@ use Rattle.certificate.specs.declared.extra.ExtraNeed.{ExtraNeed}
 use Rattle.attackers.specs.declared.contributor_task.ContributorTask.{ContributorTask}
 use Rattle.attackers.specs.KnownCells.{without_known, IsAttack, Guards, GuardsAll, is_served}
 use Rattle.attackers.specs.Extras.{attack_of, subjects_of}
-use Rattle.attackers.specs.ContributorTasks.{case_of, HoldGuards}
+use Rattle.attackers.specs.ContributorTasks.{case_of, HoldGuards, IsReadySet}
 use Rattle.attackers.specs.WholeGuards.{IsWholeGuard}
 use Rattle.attackers.specs.Dropping.{stays, renewed_guards, is_beside, cells_beside, IsNeedFor, IsNeedBelow, IsTried, IsTryStop, TriesStopFor, HasFault}
 use Rattle.attackers.proofs.AskedCells.{attack_says, attack_at}
@@ -34,7 +34,7 @@ use Rattle.attackers.proofs.Holding.{held_guards}
 
 -- ---- guards that are left where a cell is shown
 
-pub All-passing : {X : Type 0} (P Q : X → Type 0) (test : X → Bool) (xs : List X) → ((x : X) → P x → test x ≡ true → Q x) → All P xs → All Q (filter test xs)
+All-passing : {X : Type 0} (P Q : X → Type 0) (test : X → Bool) (xs : List X) → ((x : X) → P x → test x ≡ true → Q x) → All P xs → All Q (filter test xs)
 All-passing P Q test [] f all = All-nil Q
 All-passing P Q test (x ∷ xs) f all =
     let rest : All Q (filter test xs) = All-passing P Q test xs f (All-tail P x xs all) in
@@ -50,9 +50,9 @@ none_renewed c soles attacks flags cell guards news none held =
     subst (λ (g : List WorldLine). HoldGuards c soles flags [] g) same (record {
       are_worlds = All-passing (λ (line : WorldLine). IsGivenWorld c.system c.cells (hide flags cell) line.world) (λ (line : WorldLine). IsGivenWorld c.system c.cells flags line.world) (stays cell) guards
           (λ line is stay. still_world c flags cell line.world (unmoved cell line.world.moves (not_true (list_any (λ one. one.cell == cell) line.world.moves) stay)) is) held.are_worlds;
-      are_lines = All-passing (λ (line : WorldLine). IsOfKind c.cells line.cell Primary) (λ (line : WorldLine). IsOfKind c.cells line.cell Primary) (stays cell) guards (λ line is stay. is) held.are_lines;
+      are_lines = All-filter (stays cell) (λ (line : WorldLine). IsOfKind c.cells line.cell Primary) guards held.are_lines;
       served = All-nil (λ (attack : Attack). is_served c.cells soles attack (filter (stays cell) guards) ≡ true);
-      whole = λ signs are. All-passing IsWholeGuard IsWholeGuard (stays cell) guards (λ line is stay. is) (held.whole signs are);
+      whole = λ signs are. All-filter (stays cell) IsWholeGuard guards (held.whole signs are);
     })
 
 -- ---- parts of lists
@@ -257,7 +257,7 @@ pub no_memory_stop : (task : ContributorTask) (first larger : List Bool) (fault 
 no_memory_stop task first larger fault row dropped is = rw is tt
 
 -- a set stays permitted where a cell is shown that is hidden beside a permitted one
-pub permitted_less : (cells : List Cell) (first flags : List Bool) (cell : ℕ) → is_beside first flags cell ≡ true → IsPermitted cells first → IsPermitted cells flags → IsPermitted cells (show flags cell)
+permitted_less : (cells : List Cell) (first flags : List Bool) (cell : ℕ) → is_beside first flags cell ≡ true → IsPermitted cells first → IsPermitted cells flags → IsPermitted cells (show flags cell)
 permitted_less cells first flags cell extra start permitted =
     let not_first : is_hidden first cell ≡ false = not_true (is_hidden first cell) (and_true (is_hidden flags cell) (not (is_hidden first cell)) extra).1 in
     let inside : cell < length flags = by_test (nat_lt cell (length flags)) (cell < length flags) (λ is. grind (arith, nat_tests, is))
@@ -272,3 +272,10 @@ permitted_less cells first flags cell extra start permitted =
         | inr other ↦ get_or-set_other flags cell k false false other ∙ permitted.fixed_shown k one found fixed
       ];
     }
+
+-- and stays one of which the task may ask
+pub ready_less : (task : ContributorTask) (first flags : List Bool) (cell : ℕ) → is_beside first flags cell ≡ true → IsPermitted task.cells.now first → IsReadySet task flags → IsReadySet task (show flags cell)
+ready_less task first flags cell extra start ready = record {
+  each = length-set flags cell false ∙ ready.each;
+  permitted = permitted_less task.cells.now first flags cell extra start ready.permitted;
+}

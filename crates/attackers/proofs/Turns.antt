@@ -2,7 +2,7 @@
 use Rattle.std.proofs.Common.{◌≡◌, ℕ, inl, inr, not, Bool, true, false, List, [], ◌∷◌, length, get_or, All, Option, ap, sym, ◌∙◌, subst, arith}
 use Rattle.std.specs.List.{range_with_len}
 use Rattle.std.proofs.lemmas.List.{get_or-set_other}
-use Rattle.std.proofs.lemmas.List.Elements.{All-nil, All-head, All-tail, All-cons}
+use Rattle.std.proofs.lemmas.List.Elements.{All-nil, All-head, All-tail, All-cons, filter_passes}
 use Rattle.sdc_base.specs.HiddenSets.{is_hidden, show, hide_cells}
 use Rattle.worlds.specs.declared.world.World.{World}
 use Rattle.worlds.proofs.TrueTests.{and_true, not_true}
@@ -27,7 +27,6 @@ use Rattle.attackers.proofs.Concluding.{hidden_beside, left_out}
 use Rattle.attackers.proofs.GuardOrder.{ProtectedSays}
 use Rattle.attackers.proofs.Halting.{IsLeftOut, before_all, each_all}
 use Rattle.attackers.proofs.Thinning.{spot, spot_stands}
-use Rattle.attackers.proofs.Tries.{All-passing}
 
 -- what holds of all subjects holds of each need's
 of_subjects : (Q : ℕ → Type 0) (needs : List ExtraNeed) → All Q (subjects_of needs) → All (λ (need : ExtraNeed). Q need.subject) needs
@@ -38,7 +37,7 @@ of_subjects Q (need ∷ needs) all = All-cons (λ (n : ExtraNeed). Q n.subject) 
 beside_first : (first flags : List Bool) (n : ℕ) (needs : List ExtraNeed) → subjects_of needs ≡ cells_beside first flags n → All (λ (need : ExtraNeed). is_beside first flags need.subject ≡ true) needs
 beside_first first flags n needs are =
     of_subjects (λ cell. is_beside first flags cell ≡ true) needs
-    (subst (All (λ cell. is_beside first flags cell ≡ true)) (sym are) (All-passing (λ cell. Unit {0}) (λ cell. is_beside first flags cell ≡ true) (is_beside first flags) (range_with_len 0 n) (λ cell any is. is) (λ k d within. tt)))
+    (subst (All (λ cell. is_beside first flags cell ≡ true)) (sym are) (filter_passes (is_beside first flags) (range_with_len 0 n)))
 
 -- the first set stays hidden while a cell beside it is tried
 first_when_tried : (first flags larger : List Bool) (cell : ℕ) → ((k : ℕ) → is_hidden first k ≡ true → is_hidden flags k ≡ true) → ((k : ℕ) → is_hidden flags k ≡ true → is_hidden larger k ≡ true) → is_beside first flags cell ≡ true → IsWithin first (set_when_tried flags larger cell)

@@ -1,19 +1,14 @@
 -- Guards and stops in whole units.
-use Rattle.std.proofs.Common.{◌≡◌, ℕ, List, [], ◌∷◌, Bool, All, Option, sym, subst, pos, length}
+use Rattle.std.proofs.Common.{ℕ, List, [], ◌∷◌, Bool, All, Option, sym, subst, length}
 use Rattle.std.proofs.lemmas.List.Elements.{All-nil, All-cons, All-weaker}
-use Rattle.sdc_base.specs.declared.cell.Cell.{Cell}
-use Rattle.sdc_base.specs.declared.side.Side.{Side}
-use Rattle.sdc_base.specs.declared.system.System.{System}
 use Rattle.sdc_base.specs.Signs.{AreSigns}
 use Rattle.worlds.specs.ProtectFaults.{asked_of}
-use Rattle.worlds.specs.declared.multipliers.Multipliers.{Multipliers}
 use Rattle.interval_audit.specs.declared.answer.AskFault.{AskFault}
 use Rattle.interval_audit.specs.declared.answer.AskFault.TheVariants.{Work, Wide, Size, Memory}
 use Rattle.interval_audit.specs.WalkLimits.{HasNoWalk}
 use Rattle.certificate.specs.declared.extra.ExtraNeed.{ExtraNeed}
 use Rattle.repair.specs.HidingOrder.{Case}
 use Rattle.sdc_base.specs.HiddenSets.{hide}
-use Rattle.repair.specs.LevelQuestions.{AreGiven, HasCause}
 use Rattle.attackers.specs.declared.attack.Attack.{Attack}
 use Rattle.attackers.specs.declared.extra.Guarded.{Guarded}
 use Rattle.attackers.specs.declared.extra.Guarded.TheVariants as guards
@@ -25,10 +20,8 @@ use Rattle.attackers.specs.GuardStops.{IsGuardStop, StopsFor, IsStopAsTold}
 use Rattle.attackers.specs.Narrowing.{IsOutcome}
 use Rattle.attackers.specs.ContributorTasks.{case_of}
 use Rattle.attackers.specs.WholeGuards.{IsWholeGuard, IsWholeNeed, IsWholeGuarded, IsWholeGuardStop}
+use Rattle.repair.proofs.Wholeness.{given_whole, cause_whole}
 use Rattle.attackers.proofs.GuardOrder.{All-in_order}
-
-given_whole : (system : System) (cells : List Cell) (flags signs : List Bool) (asked : ℕ × Side) (multipliers : Multipliers) → AreSigns system.relations signs → AreGiven system cells flags asked multipliers → multipliers.den ≡ pos 1
-given_whole system cells flags signs asked multipliers are given = (given.is_read.3.whole signs are).1
 
 needs_whole : (c : Case) (soles : List (Option ℕ)) (attacks : List Attack) (flags larger signs : List Bool) (n : ℕ) (needs : List ExtraNeed) → AreSigns c.system.relations signs → All (IsNeedBelow c soles attacks flags larger n) needs → All IsWholeNeed needs
 needs_whole c soles attacks flags larger signs n needs are all =
@@ -49,12 +42,6 @@ extras_whole c soles prices attacks flags signs (extra ∷ extras) are each =
     All-cons IsWholeNeed extra extras
     (given_whole c.system c.cells _ signs (extra.cell, extra.side) extra.multipliers are each.0.gives)
     (extras_whole c soles prices attacks (hide flags extra.subject) signs extras are each.1)
-
-cause_whole : (system : System) (cells : List Cell) (flags signs : List Bool) (asked : ℕ × Side) (limit : ℕ) (fault : AskFault) → AreSigns system.relations signs → HasCause system cells flags asked limit fault → HasNoWalk fault
-cause_whole system cells flags signs asked limit (Work walk) are is = absurd (is.cause.3 signs are)
-cause_whole system cells flags signs asked limit (Wide walk place) are is = absurd (is.cause.3 signs are)
-cause_whole system cells flags signs asked limit (Size question hidden) are is = tt
-cause_whole system cells flags signs asked limit Memory are is = tt
 
 stop_whole : (c : Case) (soles : List (Option ℕ)) (prices : List ℕ) (attacks : List Attack) (first signs : List Bool) (limit : ℕ) (fault : AskFault) (row : ℕ) (extras : List ExtraNeed) (dropped : List ℕ) → AreSigns c.system.relations signs → IsGuardStop c soles prices attacks first limit fault row extras dropped → HasNoWalk fault × All IsWholeNeed extras
 stop_whole c soles prices attacks first signs limit fault row extras dropped are is = (

@@ -1,7 +1,7 @@
 -- How far guarding against attacks has come (own).
-use Rattle.std.specs.Prelude.{◌≡◌, ℕ, ◌+◌, ◌<◌, pos, Bool, true, false, List, length, take, slice_get, All, Option, None, Some}
+use Rattle.std.specs.Prelude.{◌≡◌, ℕ, ◌+◌, ◌<◌, pos, Bool, true, false, List, take, slice_get, All, Option, None, Some}
 use Rattle.sdc_base.specs.declared.cell.Kind.TheVariants.{Primary}
-use Rattle.sdc_base.specs.HiddenSets.{IsPermitted, full_set, hide_cells}
+use Rattle.sdc_base.specs.HiddenSets.{full_set, hide_cells}
 use Rattle.sdc_base.specs.Signs.{AreSigns}
 use Rattle.worlds.specs.declared.multipliers.Multipliers.{Multipliers}
 use Rattle.worlds.specs.WorldFaults.{IsGivenWorld}
@@ -10,6 +10,7 @@ use Rattle.kept_questions.specs.declared.kept_answer.KeptAnswer.TheVariants.{Rea
 use Rattle.interval_audit.specs.declared.answer.AskFault.{AskFault}
 use Rattle.certificate.specs.declared.certificate.WorldLine.{WorldLine}
 use Rattle.repair.specs.HidingOrder.{Case, protected_case, IsOfKind, breaks_at, coefficients_for, IsCheapest}
+use Rattle.repair.specs.Attempts.{IsPermittedSet}
 use Rattle.repair.specs.KeptWorlds.{shown_count}
 use Rattle.repair.specs.LevelQuestions.{AreGiven, HasCause}
 use Rattle.attackers.specs.declared.attack.Attack.{Attack}
@@ -40,10 +41,9 @@ pub record HoldGuards (c : Case) (soles : List (Option ℕ)) (flags : List Bool)
 abbrev pub AreGuardsOf : ContributorTask → List Bool → List Attack → List WorldLine → Type 0
 AreGuardsOf task flags attacks guards = HoldGuards (case_of task) task.soles.now flags attacks guards
 
--- a hidden set of which a task may ask: it is permitted, and there is a flag of it for each cell of the system
-pub record IsReadySet (task : ContributorTask) (flags : List Bool) : Type 0 where
-  pub each : length flags ≡ task.system.now.cells
-  pub permitted : IsPermitted task.cells.now flags
+-- a hidden set of which a task may ask
+abbrev pub IsReadySet : ContributorTask → List Bool → Type 0
+IsReadySet task flags = IsPermittedSet (case_of task) flags
 
 -- guards hold against the attacks before a place
 abbrev pub AreHeldBefore : ContributorTask → ℕ → Progress → Type 0

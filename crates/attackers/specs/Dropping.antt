@@ -1,7 +1,7 @@
 -- Extra cells that are tried as shown, one after another (own).
 use Rattle.std.specs.Prelude.{◌≡◌, ◌≢◌, ℕ, ◌+◌, ◌<◌, ◌==◌, ◌&&◌, not, Bool, true, List, [], ◌∷◌, ◌++◌, filter, drop, take, slice_get, All, Option, None, Some}
 use Rattle.std.specs.List.{list_any, range_with_len}
-use Rattle.sdc_base.specs.HiddenSets.{is_hidden}
+use Rattle.sdc_base.specs.HiddenSets.{is_hidden, IsPermitted}
 use Rattle.interval_audit.specs.declared.answer.AskFault.{AskFault}
 use Rattle.interval_audit.specs.declared.answer.AskFault.TheVariants.{Work, Wide, Size, Memory}
 use Rattle.certificate.specs.declared.certificate.WorldLine.{WorldLine}
@@ -18,7 +18,7 @@ use Rattle.attackers.specs.declared.trial.Trial.TheVariants.{Renewed, Refused}
 use Rattle.attackers.specs.declared.trying.Findings.{Findings}
 use Rattle.attackers.specs.KnownCells.{without_known, target_of, GuardsAll, GuardsBefore}
 use Rattle.attackers.specs.Extras.{attack_of, subjects_of, Unguards}
-use Rattle.attackers.specs.ContributorTasks.{case_of, HoldGuards, IsAsked}
+use Rattle.attackers.specs.ContributorTasks.{case_of, HoldGuards, AreGuardsOf, IsReadySet, IsAsked}
 
 -- a guard's world doesn't move the cell
 abbrev pub stays : ℕ → WorldLine → Bool
@@ -35,6 +35,13 @@ is_beside first flags cell = is_hidden flags cell && not (is_hidden first cell)
 -- the cells below a number that are hidden beside the first set, ascending
 abbrev pub cells_beside : List Bool → List Bool → ℕ → List ℕ
 cells_beside first flags n = filter (is_beside first flags) (range_with_len 0 n)
+
+-- Extra cells may be tried as shown: the first set is permitted, the task may ask of the hidden set, and guards hold
+-- against all attacks.
+pub record IsReadyToTry (task : ContributorTask) (first : List Bool) (progress : Progress) : Type 0 where
+  pub begins_permitted : IsPermitted task.cells.now first
+  pub set : IsReadySet task progress.hidden.flags
+  pub holds : AreGuardsOf task progress.hidden.flags task.attacks.now progress.guards
 
 -- multipliers refute that a hidden set guards against the attack that a need names, as its question is answered; it is
 -- the first of these attacks that the set doesn't guard against

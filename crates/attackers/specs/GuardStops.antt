@@ -11,13 +11,6 @@ use Rattle.sdc_base.specs.HiddenSets.{hide_cells}
 use Rattle.attackers.specs.ContributorTasks.{IsAsked}
 use Rattle.attackers.specs.Dropping.{AreDropped}
 
--- a list as it is handed out with a fault: none under want of memory
-abbrev pub list_with_fault : {X : Type 0} → AskFault → List X → List X
-list_with_fault Memory xs = []
-list_with_fault (Work walk) xs = xs
-list_with_fault (Wide walk place) xs = xs
-list_with_fault (Size question hidden) xs = xs
-
 -- a row as it is handed out with a fault: the first under want of memory
 abbrev pub row_with_fault : AskFault → ℕ → ℕ
 row_with_fault Memory row = 0

@@ -7,14 +7,14 @@ ghost use Rattle.repair.specs.HidingOrder.{protected_case, prices_of};
 ghost use Rattle.repair.specs.KeptWorlds.{HasModestLevels};
 ghost use Rattle.attackers.specs.AttackOrder as order;
 ghost use Rattle.attackers.specs.KnownCells.{GuardsAll};
-ghost use Rattle.attackers.specs.ContributorTasks.{case_of, HoldGuards, IsExtendedUpTo};
+ghost use Rattle.attackers.specs.ContributorTasks.{case_of, IsExtendedUpTo};
+ghost use Rattle.attackers.specs.Dropping.{IsReadyToTry};
 ghost use Rattle.attackers.specs.GuardStops.{IsStopAsTold};
 ghost use Rattle.attackers.specs.Guarding.{IsGuarded, is_cannot};
 ghost use Rattle.attackers.specs.Narrowing.{IsOutcome};
 ghost use Rattle.attackers.specs.Turns.{IsLeftOfTurns};
 ghost use Rattle.attackers.specs.WholeGuards.{IsWholeGuarded, IsWholeGuardStop};
 
-use crate::asking::questions_about;
 use crate::collecting::extra_of;
 use crate::contributor_task::ContributorTask;
 use crate::extra::{GuardStop, Guarded};
@@ -26,7 +26,7 @@ use crate::trying::{Findings, try_all};
 use cost_rule::{CostRule, TellsCosts};
 use interval_audit::SignedSystem;
 use linked_tables::Mark;
-use repair::{list_prices, questions_of};
+use repair::{list_prices, questions_about, questions_of};
 use sdc_base::{Cell, Hidden, Items, Side, System};
 use std::alloc::Global;
 use worlds::Protected;
@@ -176,7 +176,7 @@ fn resist(
         },
         guards: Items::empty(alloc),
         extras: Items::empty(alloc),
-        kept: questions_about(alloc, task, first),
+        kept: questions_about(alloc, task.system, task.cells, first),
     };
     let outcome = guard_all(alloc, task, &mut progress);
     let found = match outcome {
@@ -204,12 +204,8 @@ fn narrow(
     first: &Hidden,
     extended: Progress,
 ) -> Result<Guarded, GuardStop>
-    requires each { length extended.hidden.flags ≡ task.now.system.now.cells }
-    requires first { IsPermitted task.now.cells.now first.now.flags }
-    requires permitted { IsPermitted task.now.cells.now extended.hidden.flags }
+    requires ready { IsReadyToTry task.now first.now.flags extended }
     requires asked { asked.now ≡ asked_of 0 task.now.cells.now }
-    requires holds { HoldGuards (case_of task.now) task.now.soles.now extended.hidden.flags task.now.attacks.now
-        extended.guards }
     requires extended { IsExtendedUpTo task.now (length task.now.attacks.now) first.now.flags extended }
     ensures guarded { IfOk result (IsOutcome task.now first.now.flags) }
     ensures stopped { IfErr result (IsStopAsTold (case_of task.now) task.now.soles.now task.now.prices.now

@@ -1,12 +1,9 @@
 ghost use Rattle.std.specs.Prelude.{◌≡◌, ◌++◌, ◌∷◌, [], OnOk, OnErr};
 ghost use Rattle.sdc_base.specs.HiddenSets.{hide};
 
-use crate::asking::questions_about_more;
-use crate::contributor_task::ContributorTask;
 use certificate::{ExtraNeed, WorldLine};
 use kept_questions::KeptQuestions;
 use sdc_base::{Hidden, Items, Memory};
-use std::alloc::Global;
 
 /// How far guarding against attacks has come.
 #[derive(Drop)]
@@ -28,16 +25,6 @@ impl Progress {
         ensures err { OnErr result (self.new.guards ≡ self.old.guards) }
     {
         self.guards.push(line)
-    }
-
-    /// Keeps questions about the cells that are hidden now, which are those of before and more.
-    pub(crate) fn keep_questions(&mut self, alloc: Global, task: &ContributorTask<'_>)
-        ensures flags { self.new.hidden.flags ≡ self.old.hidden.flags }
-        ensures guards { self.new.guards ≡ self.old.guards }
-        ensures extras { self.new.extras ≡ self.old.extras }
-    {
-        let kept = self.kept.take();
-        self.kept = questions_about_more(alloc, task, &self.hidden, kept);
     }
 
     /// Hides an extra cell, and keeps its reason.

@@ -12,6 +12,7 @@ use crate::progress::Progress;
 use certificate::{ExtraNeed, WorldLine};
 use interval_audit::AskFault;
 use kept_questions::{KeptAnswer, KeptQuestions};
+use repair::widen_questions;
 use sdc_base::Memory;
 use std::alloc::Global;
 use worlds::Multipliers;
@@ -79,7 +80,13 @@ fn guard_at(
         let step = guard_once(alloc, task, place, progress)?;
         match step {
             Step::Served => return Ok(None),
-            Step::Extended => progress.keep_questions(alloc, task),
+            Step::Extended => widen_questions(
+                alloc,
+                task.system,
+                task.cells,
+                &progress.hidden,
+                &mut progress.kept,
+            ),
             Step::Cannot(one) => return Ok(Some(one)),
         }
     }

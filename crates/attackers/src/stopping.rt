@@ -1,5 +1,6 @@
 ghost use Rattle.std.specs.Prelude.{◌≡◌, []};
-ghost use Rattle.attackers.specs.GuardStops.{list_with_fault, row_with_fault};
+ghost use Rattle.repair.specs.Stops.{list_with_fault};
+ghost use Rattle.attackers.specs.GuardStops.{row_with_fault};
 ghost use Rattle.attackers.specs.WholeGuards.{IsWholeGuardStop};
 
 use crate::extra::{Against, GuardStop};

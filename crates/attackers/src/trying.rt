@@ -1,7 +1,7 @@
 ghost use Rattle.std.specs.Prelude.{◌≡◌, ◌+◌, ◌<◌, ◌++◌, ◌∷◌, [], ℕ, List, true, length, IfErr, OnOk};
-ghost use Rattle.sdc_base.specs.HiddenSets.{is_hidden, IsPermitted, hide};
-ghost use Rattle.attackers.specs.ContributorTasks.{case_of, HoldGuards};
-ghost use Rattle.attackers.specs.Dropping.{is_beside, renewed_guards, HasTried, TriesStopFor, IsCellTrial, IsCellTrialStop};
+ghost use Rattle.sdc_base.specs.HiddenSets.{is_hidden, hide};
+ghost use Rattle.attackers.specs.ContributorTasks.{IsReadySet};
+ghost use Rattle.attackers.specs.Dropping.{is_beside, renewed_guards, IsReadyToTry, HasTried, TriesStopFor, IsCellTrial, IsCellTrialStop};
 
 use crate::attempt::Attempt;
 use crate::contributor_task::ContributorTask;
@@ -31,18 +31,13 @@ pub(crate) fn try_all(
     progress: &mut Progress,
     found: &mut Findings,
 ) -> Result<(), RowFault>
-    requires each { length progress.old.hidden.flags ≡ task.now.system.now.cells }
-    requires first { IsPermitted task.now.cells.now first.now.flags }
-    requires permitted { IsPermitted task.now.cells.now progress.old.hidden.flags }
+    requires ready { IsReadyToTry task.now first.now.flags progress.old }
     requires within { (cell : ℕ) → is_hidden first.now.flags cell ≡ true
         → is_hidden progress.old.hidden.flags cell ≡ true }
-    requires holds { HoldGuards (case_of task.now) task.now.soles.now progress.old.hidden.flags
-        task.now.attacks.now progress.old.guards }
     requires no_needs { found.old.needs ≡ [] }
     requires none_dropped { found.old.dropped ≡ [] }
     ensures extras { progress.new.extras ≡ progress.old.extras }
-    ensures each { OnOk result (length progress.new.hidden.flags ≡ task.now.system.now.cells) }
-    ensures permitted { OnOk result (IsPermitted task.now.cells.now progress.new.hidden.flags) }
+    ensures set { OnOk result (IsReadySet task.now progress.new.hidden.flags) }
     ensures ok { OnOk result (HasTried task.now first.now.flags progress.old.hidden.flags
         (length task.now.cells.now) progress.new found.new) }
     ensures err { IfErr result
@@ -78,14 +73,9 @@ fn try_one(
 ) -> Result<(), RowFault>
     requires inside { cell < length task.now.cells.now }
     requires extra { is_beside first.now.flags progress.old.hidden.flags cell ≡ true }
-    requires each { length progress.old.hidden.flags ≡ task.now.system.now.cells }
-    requires first { IsPermitted task.now.cells.now first.now.flags }
-    requires permitted { IsPermitted task.now.cells.now progress.old.hidden.flags }
-    requires holds { HoldGuards (case_of task.now) task.now.soles.now progress.old.hidden.flags
-        task.now.attacks.now progress.old.guards }
+    requires ready { IsReadyToTry task.now first.now.flags progress.old }
     ensures extras { progress.new.extras ≡ progress.old.extras }
-    ensures each { OnOk result (length progress.new.hidden.flags ≡ task.now.system.now.cells) }
-    ensures permitted { OnOk result (IsPermitted task.now.cells.now progress.new.hidden.flags) }
+    ensures set { OnOk result (IsReadySet task.now progress.new.hidden.flags) }
     ensures ok { OnOk result (IsCellTrial task.now first.now.flags cell progress.old found.old progress.new
         found.new) }
     ensures err { IfErr result

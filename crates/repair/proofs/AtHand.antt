@@ -5,7 +5,7 @@ use Rattle.std.specs.Option.{option_map_or}
 use Rattle.std.proofs.Math.Seq.{take-length}
 use Rattle.std.proofs.lemmas.Bool.Decides.{Decides-eqb}
 use Rattle.std.proofs.lemmas.List.{take_more, take_more_set}
-use Rattle.std.proofs.lemmas.List.Elements.{All-nil, All-cons, All-head, All-tail, All-append, All-get_or}
+use Rattle.std.proofs.lemmas.List.Elements.{All-nil, All-cons, All-head, All-tail, All-append, All-filter, All-get_or, All-take}
 use Rattle.std.proofs.lemmas.Option.{slice_get_within, get_or_from_slice_get}
 use Rattle.sdc_base.specs.declared.cell.Cell.{Cell}
 use Rattle.sdc_base.specs.declared.cell.Kind.TheVariants.{Primary}
@@ -163,11 +163,6 @@ protects_at_hand c flags asked one questions worlds reusable found kept are test
       | false ↦ λ is more. protects_spare c flags asked one reusable found are more
     ] refl test
 
-All-take : {X : Type 0} (P : X → Type 0) (n : ℕ) (xs : List X) → All P xs → All P (take n xs)
-All-take P zero xs all = All-nil P
-All-take P (suc n) [] all = All-nil P
-All-take P (suc n) (x ∷ xs) all = All-cons P x (take n xs) (All-head P x xs all) (All-take P n xs (All-tail P x xs all))
-
 -- one question more that the set protects
 pub protects_next : (c : Case) (flags : List Bool) (place : ℕ) (asked : ℕ × Side) → StandsAt c.cells asked place → Protects c.system c.cells flags asked.0 asked.1 → ProtectsBefore c flags place → ProtectsBefore c flags (place + 1)
 protects_next c flags place asked stands own before =
@@ -230,18 +225,9 @@ pub All-last : {X : Type 0} (P : X → Type 0) (xs : List X) (x : X) → All P (
 All-last P [] x all = All-head P x [] all
 All-last P (y ∷ xs) x all = All-last P xs x (All-tail P y (xs ++ x ∷ []) all)
 
-pub All-filtered : {X : Type 0} (P : X → Type 0) (test : X → Bool) (xs : List X) → All P xs → All P (filter test xs)
-All-filtered P test [] all = All-nil P
-All-filtered P test (x ∷ xs) all =
-    let rest : All P (filter test xs) = All-filtered P test xs (All-tail P x xs all) in
-    elim (test x) as (λ b. All P (if b then x ∷ filter test xs else filter test xs)) [
-      | true ↦ All-cons P x (filter test xs) (All-head P x xs all) rest
-      | false ↦ rest
-    ]
-
 -- those that are left
 pub spares_left : (c : Case) (flags : List Bool) (reusable : List ReusableTable) → AreReusableTables c reusable → AreReusableTables c (filter (λ spare. fits flags spare.world) reusable)
-spares_left c flags reusable are = All-filtered (IsReusableTable c) (λ (spare : ReusableTable). fits flags spare.world) reusable are
+spares_left c flags reusable are = All-filter (λ (spare : ReusableTable). fits flags spare.world) (IsReusableTable c) reusable are
 
 -- a spare more, where there is room
 pub spare_kept : (c : Case) (reusable : List ReusableTable) (spare : ReusableTable) (room : Bool) → IsReusableTable c spare → AreReusableTables c reusable → AreReusableTables c (if room then reusable ++ spare ∷ [] else reusable)

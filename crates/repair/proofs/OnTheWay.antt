@@ -2,7 +2,7 @@
 use Rattle.std.proofs.Common.{◌≡◌, ℕ, zero, suc, ◌+◌, ◌<◌, ◌≤◌, inl, inr, ◌&&◌, not, Bool, true, false, List, [], ◌∷◌, ◌++◌, length, drop, filter, slice_get, slice_set, Some, ap, sym, ◌∙◌, subst, arith, if◌then◌else◌}
 use Rattle.std.specs.Option.{option_map_or}
 use Rattle.std.proofs.lemmas.List.{append-nil, append_assoc}
-use Rattle.std.proofs.lemmas.List.Elements.{All-nil, All-cons, All-append, All-weaker}
+use Rattle.std.proofs.lemmas.List.Elements.{All-nil, All-cons, All-append, All-filter, All-weaker}
 use Rattle.sdc_base.specs.declared.cell.Cell.{Cell}
 use Rattle.sdc_base.specs.declared.cell.Kind.TheVariants.{Free}
 use Rattle.sdc_base.specs.declared.side.Side.{Side}
@@ -21,7 +21,6 @@ use Rattle.repair.specs.OnTheWay.{IsOfFirst, IsOfTrial, IsOnWay, AreAnswers}
 use Rattle.repair.specs.CellTrials.{fits, offered, IsTrialAnswer, AreTrialAnswers}
 use Rattle.repair.specs.QuestionSteps.{IsRepairedUpTo}
 use Rattle.repair.specs.Tasks.{case_of}
-use Rattle.repair.proofs.AtHand.{All-filtered}
 use Rattle.repair.proofs.Repairing.{none_repaired, on_to_next}
 use Rattle.repair.proofs.Tries.{tried_now, tried_same}
 
@@ -147,4 +146,4 @@ trials_tried c larger n flags reusable are = trials_set c larger (n + 1) flags n
 
 -- those that are left
 pub trials_left : (c : Case) (larger : List Bool) (n : ℕ) (flags set : List Bool) (reusable : List ReusableTable) → AreTrialAnswers c larger n flags reusable → AreTrialAnswers c larger n flags (filter (λ spare. fits set spare.world) reusable)
-trials_left c larger n flags set reusable are = All-filtered (IsTrialAnswer c larger n flags) (λ (spare : ReusableTable). fits set spare.world) reusable are
+trials_left c larger n flags set reusable are = All-filter (λ (spare : ReusableTable). fits set spare.world) (IsTrialAnswer c larger n flags) reusable are

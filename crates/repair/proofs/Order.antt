@@ -1,11 +1,11 @@
 -- The order of questions.
-use Rattle.std.proofs.Common.{◌≡◌, ℕ, zero, suc, ◌+◌, ◌<◌, true, false, List, [], ◌∷◌, ◌++◌, length, drop, get_or, All, Some, slice_get, ◌^◌, ℤ, pos, ◌≤ℤ◌, refl, ap, sym, ◌∙◌, subst, arith, if◌then◌else◌}
+use Rattle.std.proofs.Common.{◌≡◌, ℕ, zero, suc, ◌+◌, ◌<◌, true, false, List, [], ◌∷◌, ◌++◌, length, drop, get_or, All, None, Some, slice_get, ◌^◌, ℤ, pos, ◌≤ℤ◌, refl, ap, sym, ◌∙◌, subst, arith, if◌then◌else◌}
 use Rattle.std.specs.Option.{option_map_or}
 use Rattle.std.proofs.lemmas.Int.{ints}
 use Rattle.std.proofs.lemmas.List.{drop_more}
 use Rattle.std.proofs.lemmas.List.Elements.{All-get_or}
 use Rattle.std.proofs.lemmas.Option.{slice_get_within, get_or_from_slice_get}
-use Rattle.sdc_base.specs.Kinds.{is_primary}
+use Rattle.sdc_base.specs.Kinds.{is_primary, is_primary_at}
 use Rattle.sdc_base.specs.declared.cell.Cell.{Cell}
 use Rattle.sdc_base.specs.declared.cell.Kind.{Kind}
 use Rattle.sdc_base.specs.declared.cell.Kind.TheVariants.{Primary, Free, Fixed}
@@ -35,6 +35,18 @@ pub primary_is : (kind : Kind) → is_primary kind ≡ true → kind ≡ Primary
 primary_is Primary is = refl
 primary_is Free is = absurd cc
 primary_is Fixed is = absurd cc
+
+-- a cell that is primary by the test
+pub primary_here : (cells : List Cell) (number : ℕ) → is_primary_at cells number ≡ true → IsOfKind cells number Primary
+primary_here cells number is =
+    elim (slice_get cells number) as (λ o. slice_get cells number ≡ o → option_map_or (λ (one : Cell). is_primary one.kind) o false ≡ true → IsOfKind cells number Primary) [
+      | None ↦ λ found test. absurd cc
+      | Some cell ↦ λ found test. record { cell = cell; found = found; is_kind = primary_is cell.kind test }
+    ] refl is
+
+-- the test of a primary cell
+pub primary_by : (cells : List Cell) (number : ℕ) → IsOfKind cells number Primary → is_primary_at cells number ≡ true
+primary_by cells number is = ap (λ o. option_map_or (λ (one : Cell). is_primary one.kind) o false) is.found ∙ ap is_primary is.is_kind
 
 -- a question is of a primary cell, of those from this number on
 abbrev pub IsAskedFrom : ℕ → List Cell → ℕ × Side → Type 0

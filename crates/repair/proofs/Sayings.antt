@@ -1,6 +1,7 @@
 -- What the definitions come to.
 use Rattle.std.proofs.Common.{◌≡◌, ◌⊎◌, inl, inr, ℕ, zero, suc, ◌+◌, ◌*◌, ◌<◌, ◌≤◌, ◌==◌, ◌||◌, Bool, true, false, List, [], ◌∷◌, length, length-set, map, fold, Some, slice_get, refl, ap, sym, ◌∙◌, subst, arith, if◌then◌else◌}
 use Rattle.std.specs.List.{list_any}
+use Rattle.std.proofs.lemmas.Bool.{or_cases}
 use Rattle.std.proofs.lemmas.Bool.Decides.{Decides-eqb}
 use Rattle.std.proofs.lemmas.List.{length-map}
 use Rattle.sdc_base.specs.Kinds.{is_primary}
@@ -21,10 +22,6 @@ use Rattle.repair.proofs.Order.{primary_is, asked_primary, asked_from}
 or_right : (a b : Bool) → b ≡ true → (a || b) ≡ true
 or_right true b is = refl
 or_right false b is = is
-
-or_cases : (a b : Bool) → (a || b) ≡ true → (a ≡ true) ⊎ (b ≡ true)
-or_cases true b is = inl refl
-or_cases false b is = inr is
 
 -- what is hidden was hidden, or is among those that were hidden
 hidden_by : (flags : List Bool) (cells : List ℕ) (c : ℕ) → is_hidden (fold hide flags cells) c ≡ true → (is_hidden flags c ≡ true) ⊎ IsAmong cells c

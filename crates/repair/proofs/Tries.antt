@@ -1,5 +1,5 @@
 -- Cells tried as shown, one after another.
-use Rattle.std.proofs.Common.{◌≡◌, ◌≢◌, ℕ, zero, suc, ◌+◌, ◌<◌, ◌≤◌, ◌==◌, inl, inr, ◌&&◌, not, Bool, true, false, List, [], ◌∷◌, ◌++◌, length, take, drop, map, slice_set, slice_get, All, Some, Result, Ok, Err, OnOk, IfErr, refl, ap, sym, ◌∙◌, subst, arith, add-one, if◌then◌else◌}
+use Rattle.std.proofs.Common.{◌≡◌, ◌≢◌, ℕ, zero, suc, ◌+◌, ◌<◌, ◌≤◌, ◌==◌, inl, inr, ◌&&◌, not, Bool, true, false, List, [], ◌∷◌, ◌++◌, length, take, drop, map, slice_set, slice_get, All, Some, Result, Ok, Err, OnOk, refl, ap, sym, ◌∙◌, subst, arith, add-one, if◌then◌else◌}
 use Rattle.std.proofs.Math.Seq.{take-length}
 use Rattle.std.proofs.lemmas.List.{length-take, get_or-set_same, get_or-set_other, map-append, append-nil}
 use Rattle.std.proofs.lemmas.Option.{slice_get_within}
@@ -387,11 +387,6 @@ all_needed c larger flags needs shown is = record {
 pub on_ok_two : {A F : Type 0} {P Q R : Type 0} (r : Result A F) → OnOk r P → OnOk r Q → (P → Q → R) → OnOk r R
 on_ok_two (Ok x) p q both = both p q
 on_ok_two (Err e) p q both = tt
-
--- a fact on an error from another
-pub on_err_from : {A F : Type 0} {P Q : F → Type 0} (r : Result A F) → ((e : F) → P e → Q e) → IfErr r P → IfErr r Q
-on_err_from (Ok x) more own = tt
-on_err_from (Err e) more own = more e own
 
 -- a cell that isn't free is no hidden one but a primary one
 pub other_kind : (kind : Kind) (hidden : Bool) → is_free kind ≡ false → (kind ≡ Fixed → hidden ≡ false) → (hidden && not (is_primary kind)) ≡ false

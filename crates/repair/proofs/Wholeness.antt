@@ -25,7 +25,8 @@ use Rattle.repair.specs.Stops.{StopsFor}
 use Rattle.repair.specs.Verdicts.{IsVerdict}
 use Rattle.repair.specs.WholeVerdicts.{IsWholeWorld, IsWholeRefuted, IsWholeVerdict, IsWholeStop}
 
-given_whole : (system : System) (cells : List Cell) (flags signs : List Bool) (asked : ℕ × Side) (multipliers : Multipliers) → AreSigns system.relations signs → AreGiven system cells flags asked multipliers → multipliers.den ≡ pos 1
+-- where the relations have signs multipliers of an answer are whole
+pub given_whole : (system : System) (cells : List Cell) (flags signs : List Bool) (asked : ℕ × Side) (multipliers : Multipliers) → AreSigns system.relations signs → AreGiven system cells flags asked multipliers → multipliers.den ≡ pos 1
 given_whole system cells flags signs asked multipliers are given = (given.is_read.3.whole signs are).1
 
 worlds_whole : (c : Case) (Is : List Bool → Type 0) (signs : List Bool) (asked : List (ℕ × Side)) (worlds : List World) → AreSigns c.system.relations signs → AreAnswers c Is asked worlds → All IsWholeWorld worlds
@@ -56,7 +57,8 @@ verdict_whole c prices planned signs (Protected protected repairs needs) are is 
 verdict_whole c prices planned signs (Cannot cell side multipliers) are is =
     given_whole c.system c.cells (hide_subjects planned is.repairs) signs (cell, side) multipliers are is.stopped.gives
 
-cause_whole : (system : System) (cells : List Cell) (flags signs : List Bool) (asked : ℕ × Side) (limit : ℕ) (fault : AskFault) → AreSigns system.relations signs → HasCause system cells flags asked limit fault → HasNoWalk fault
+-- and no walk is why there is none
+pub cause_whole : (system : System) (cells : List Cell) (flags signs : List Bool) (asked : ℕ × Side) (limit : ℕ) (fault : AskFault) → AreSigns system.relations signs → HasCause system cells flags asked limit fault → HasNoWalk fault
 cause_whole system cells flags signs asked limit (Work walk) are is = absurd (is.cause.3 signs are)
 cause_whole system cells flags signs asked limit (Wide walk place) are is = absurd (is.cause.3 signs are)
 cause_whole system cells flags signs asked limit (Size question hidden) are is = tt

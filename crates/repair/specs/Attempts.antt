@@ -1,5 +1,5 @@
 -- Attempts to show hidden cells, one after another, and what they keep (own).
-use Rattle.std.specs.Prelude.{◌≡◌, ℕ, ◌+◌, ◌&&◌, Bool, false, List, [], length, slice_get}
+use Rattle.std.specs.Prelude.{◌≡◌, ℕ, ◌+◌, ◌&&◌, Bool, false, List, [], length, slice_get, Option}
 use Rattle.std.specs.Option.{option_map_or}
 use Rattle.sdc_base.specs.declared.cell.Cell.{Cell}
 use Rattle.sdc_base.specs.HiddenSets.{is_hidden, IsPermitted}
@@ -44,6 +44,14 @@ pub record IsUntried (task : Task) (tried : Findings) : Type 0 where
   pub none_shown : tried.shown ≡ []
   pub no_spares : tried.reusable.items ≡ []
   pub last : AreLast (case_of task) tried.last.items
+
+-- what trials have at hand: the worlds that are kept, the spare ones and the last ones, each of which served its question
+-- for some hidden set
+pub record AreAtHand (task : Task) (worlds : List World) (spare : List ReusableTable)
+    (earlier : List (Option World)) : Type 0 where
+  pub kept : AreKept (case_of task) (asked_of 0 task.cells.now) worlds
+  pub reusable : AreReusableTables (case_of task) spare
+  pub last : AreLast (case_of task) earlier
 
 -- a protection is ready to try a cell, with the worlds that are kept, the spare ones and the last ones
 pub record IsReadyToTry (task : Task) (progress : Progress) (tried : Findings) : Type 0 where

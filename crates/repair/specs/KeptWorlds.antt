@@ -1,5 +1,8 @@
 -- Worlds kept for what is asked, and how far repairing has come (own).
 use Rattle.std.specs.Prelude.{◌≡◌, ℕ, ◌+◌, ◌≤◌, ◌^◌, Bool, true, false, List, [], ◌∷◌, length, take, All, pos, ◌≤ℤ◌}
+use Rattle.sdc_base.specs.Kinds.{is_primary_at}
+use Rattle.sdc_base.specs.HiddenSets.{is_hidden}
+use Rattle.sdc_base.specs.Patterns.{IsPattern}
 use Rattle.sdc_base.specs.declared.cell.Cell.{Cell}
 use Rattle.sdc_base.specs.declared.cell.Kind.TheVariants.{Primary}
 use Rattle.sdc_base.specs.declared.side.Side.{Side}
@@ -27,6 +30,16 @@ pub record IsTask (system : System) (cells : List Cell) (prices : List ℕ) (que
   pub priced : length prices ≡ system.cells
   pub modest : All HasModestLevels cells
   pub in_order : questions ≡ asked_of 0 cells
+  pub some_steps : 1 ≤ limit
+
+-- A primary cell may be asked about, to a side: there are a cell and a flag for each cell of the system, with modest
+-- levels, the set hides the cell, and the walk may make a step.
+pub record IsAskable (system : System) (cells : List Cell) (flags : List Bool) (asked : ℕ × Side)
+    (limit : ℕ) : Type 0 where
+  pub one_each : IsPattern system cells flags
+  pub modest : All HasModestLevels cells
+  pub primary : is_primary_at cells asked.0 ≡ true
+  pub hidden : is_hidden flags asked.0 ≡ true
   pub some_steps : 1 ≤ limit
 
 -- the world is one for the hidden set, and takes the primary cell that is asked about at least its level to the side

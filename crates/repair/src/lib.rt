@@ -21,6 +21,7 @@ mod trying;
 mod unprotected_cell;
 mod verdict;
 
+pub use asking::{LevelQuestion, ask_level, questions_about, widen_questions};
 pub use cheapest::find_cheapest;
 pub use laws::{open_set_holds, questions_are_in_order, stopped_are_given};
 pub use planned::{hide_subjects, planned_hidden};

@@ -140,7 +140,7 @@ fn repaired_verdict<'a>(
     ensures stopped { IfErr result (λ stopped. IsStopAsTold (case_of task.now) task.now.prices.now hidden.flags
         task.now.limit stopped) }
 {
-    let kept = questions_about(alloc, task, &hidden);
+    let kept = questions_about(alloc, task.system, task.cells, &hidden);
     let mut progress = Progress {
         hidden,
         worlds: Items::empty(alloc),

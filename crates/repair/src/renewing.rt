@@ -7,7 +7,7 @@ ghost use Rattle.repair.specs.CellTrials.{AreKept, AreReusableTables, HasFault};
 ghost use Rattle.repair.specs.CellTrials as spec;
 ghost use Rattle.repair.specs.Attempts.{IsTriedSet, StayOnWay, StayOnWayWith};
 
-use crate::asking::ask_level;
+use crate::asking::{LevelQuestion, ask_level};
 use crate::task::Task;
 use crate::trial::{ReusableTable, fits};
 use interval_audit::AskFault;
@@ -98,7 +98,14 @@ fn renew_question(
     if fits(&own[place], hidden.flags.as_slice()) {
         return Ok(());
     }
-    let answer = ask_level(alloc, task, hidden, task.questions[place], kept)?;
+    let question = LevelQuestion {
+        system: task.system,
+        cells: task.cells,
+        hidden,
+        asked: task.questions[place],
+        limit: task.limit,
+    };
+    let answer = ask_level(alloc, &question, kept)?;
     match answer {
         KeptAnswer::Reaches(world) => {
             worlds.set(place, world);

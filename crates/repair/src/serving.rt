@@ -8,7 +8,7 @@ ghost use Rattle.repair.specs.KeptWorlds.{HasModestLevels, AreServedBefore, IsSt
 ghost use Rattle.repair.specs.Stops.{IsQuestion};
 ghost use Rattle.repair.specs.QuestionSteps.{IsReadyForRepair, IsRepairedUpTo, IsRepairProgress, IsStep, IsUnprotected, AreServedOrUnprotected, IsHalted};
 
-use crate::asking::ask_level;
+use crate::asking::{LevelQuestion, ask_level, widen_questions};
 use crate::cheapest::subject_of;
 use crate::progress::Progress;
 use crate::task::Task;
@@ -79,7 +79,13 @@ fn serve(
         let step = ask_once(alloc, task, place, scratch, progress)?;
         match step {
             Step::Served => return Ok(None),
-            Step::Repaired => progress.keep_questions(alloc, task),
+            Step::Repaired => widen_questions(
+                alloc,
+                task.system,
+                task.cells,
+                &progress.hidden,
+                &mut progress.kept,
+            ),
             Step::Cannot(unprotected) => return Ok(Some(unprotected)),
         }
     }
@@ -104,7 +110,14 @@ fn ask_once(
         place) }
 {
     let asked = task.questions[place];
-    let answer = ask_level(alloc, task, &progress.hidden, asked, &mut progress.kept)?;
+    let question = LevelQuestion {
+        system: task.system,
+        cells: task.cells,
+        hidden: &progress.hidden,
+        asked,
+        limit: task.limit,
+    };
+    let answer = ask_level(alloc, &question, &mut progress.kept)?;
     match answer {
         KeptAnswer::Reaches(world) => match progress.keep(world) {
             Ok(()) => Ok(Step::Served),

@@ -29,11 +29,7 @@ pub(crate) fn stop_with(
     ensures shown { result.shown ≡ list_with_fault fault shown }
 {
     match fault {
-        AskFault::Memory => Stopped {
-            fault: AskFault::Memory,
-            repairs: Items::empty(alloc),
-            shown: Items::empty(alloc),
-        },
+        AskFault::Memory => out_of_memory(alloc),
         other => Stopped {
             fault: other,
             repairs,

@@ -1,6 +1,5 @@
 ghost use Rattle.std.specs.Prelude.{◌≡◌, ◌<◌, ◌+◌, Some, slice_get, length, IfOk, IfErr, OnOk, OnErr};
 ghost use Rattle.std.specs.List.{list_any};
-ghost use Rattle.sdc_base.specs.HiddenSets.{is_hidden};
 ghost use Rattle.sdc_base.specs.declared.cell.Cell.{Cell as AnyCell};
 ghost use Rattle.sdc_base.specs.declared.cell.Kind.TheVariants.{Primary as PrimaryKind};
 ghost use Rattle.worlds.specs.ProtectFaults.{asked_of};
@@ -8,15 +7,15 @@ ghost use Rattle.repair.specs.HidingOrder.{IsOfKind, StandsAt, ProtectsBefore};
 ghost use Rattle.repair.specs.Tasks.{case_of};
 ghost use Rattle.repair.specs.Stops.{IsQuestion};
 ghost use Rattle.repair.specs.CellTrials.{AreKept, AreReusableTables, AreLast, ProtectsBeforeOr, HasFault};
-ghost use Rattle.repair.specs.Attempts.{StayTrialAnswers};
+ghost use Rattle.repair.specs.Attempts.{AreAtHand, StayTrialAnswers};
 ghost use Rattle.repair.specs.CellTrials as spec;
 
-use crate::asking::{ask_kept, ask_walk};
+use crate::asking::{LevelQuestion, ask_kept, ask_walk};
 use crate::attempt::Attempt;
 use crate::last_worlds::{has_fitting, keep_last};
 use interval_audit::AskFault;
 use kept_questions::{KeptAnswer, KeptQuestions};
-use sdc_base::{Cell, Memory, Side};
+use sdc_base::{Cell, Memory, Side, is_hidden};
 use std::alloc::Global;
 use worlds::{Refuted, World, reaches};
 
@@ -36,10 +35,7 @@ pub(crate) fn first_need(
     last: &mut Vec<Option<World>>,
     kept: &mut Option<KeptQuestions>,
 ) -> Result<Option<Refuted>, AskFault>
-    requires kept { AreKept (case_of attempt.now.task.now) (asked_of 0 attempt.now.task.now.cells.now)
-        attempt.now.worlds.now }
-    requires reusable { AreReusableTables (case_of attempt.now.task.now) reusable.old.items }
-    requires last { AreLast (case_of attempt.now.task.now) last.old.items }
+    requires at_hand { AreAtHand attempt.now.task.now attempt.now.worlds.now reusable.old.items last.old.items }
     ensures last { AreLast (case_of attempt.now.task.now) last.new.items }
     ensures reusable { IfOk result (λ _. AreReusableTables (case_of attempt.now.task.now) reusable.new.items) }
     ensures answers { IfOk result (λ _. StayTrialAnswers (case_of attempt.now.task.now) (attempt.now.cell + 1)
@@ -70,10 +66,7 @@ fn need_at(
     requires place { place < length attempt.now.task.now.questions.now }
     requires count { length attempt.now.worlds.now ≡ length attempt.now.task.now.questions.now }
     requires before { ProtectsBefore (case_of attempt.now.task.now) attempt.now.hidden.now.flags place }
-    requires kept { AreKept (case_of attempt.now.task.now) (asked_of 0 attempt.now.task.now.cells.now)
-        attempt.now.worlds.now }
-    requires reusable { AreReusableTables (case_of attempt.now.task.now) reusable.old.items }
-    requires last { AreLast (case_of attempt.now.task.now) last.old.items }
+    requires at_hand { AreAtHand attempt.now.task.now attempt.now.worlds.now reusable.old.items last.old.items }
     ensures last { AreLast (case_of attempt.now.task.now) last.new.items }
     ensures reusable { IfOk result (λ _. AreReusableTables (case_of attempt.now.task.now) reusable.new.items) }
     ensures answers { IfOk result (λ _. StayTrialAnswers (case_of attempt.now.task.now) (attempt.now.cell + 1)
@@ -93,7 +86,14 @@ fn need_at(
         return Ok(None);
     }
     let asked = task.questions[place];
-    let Some(answer) = ask_kept(alloc, task, attempt.hidden, asked, kept) else {
+    let question = LevelQuestion {
+        system: task.system,
+        cells: task.cells,
+        hidden: attempt.hidden,
+        asked,
+        limit: task.limit,
+    };
+    let Some(answer) = ask_kept(alloc, &question, kept) else {
         return walked_refusal(alloc, attempt, place, asked, reusable);
     };
     match answer {
@@ -142,7 +142,14 @@ fn walked_refusal(
     ) {
         return Ok(None);
     }
-    let answer = ask_walk(alloc, task, attempt.hidden, asked)?;
+    let question = LevelQuestion {
+        system: task.system,
+        cells: task.cells,
+        hidden: attempt.hidden,
+        asked,
+        limit: task.limit,
+    };
+    let answer = ask_walk(alloc, &question)?;
     match answer {
         KeptAnswer::Reaches(world) => {
             let Ok(()) = keep_spare(
@@ -232,15 +239,5 @@ pub(crate) fn fits(world: &World, flags: &[bool]) -> bool
         .moves
         .as_slice()
         .iter()
-        .all(|one| is_set(flags, one.cell))
-}
-
-// Whether a cell's flag is set; none is where there is no flag.
-fn is_set(flags: &[bool], cell: u32) -> bool
-    ensures { result ≡ is_hidden flags.now cell }
-{
-    match flags.get(cell as usize) {
-        Some(flag) => *flag,
-        None => false,
-    }
+        .all(|one| is_hidden(flags, one.cell as usize))
 }

@@ -1,5 +1,8 @@
-use Rattle.std.proofs.Common.{◌≡◌, ◌∙◌, refl, List, Bool, subst}
-use Rattle.attackers.specs.ContributorTasks.{IsHalted}
+use Rattle.std.proofs.Common.{◌≡◌, ◌∙◌, refl, List, Bool, length, subst}
+use Rattle.std.proofs.Math.Seq.{take-length}
+use Rattle.attackers.specs.declared.attack.Attack.{Attack}
+use Rattle.attackers.specs.declared.progress.Progress.{Progress}
+use Rattle.attackers.specs.ContributorTasks.{AreGuardsOf, AreHeldBefore, AreHeldOr, IsHalted}
 use Rattle.attackers.proofs.Halting.{stops_told}
 use Rattle.attackers.proofs.guarding.resist.Goals as goal
 
@@ -10,3 +13,14 @@ returns-in-Err-clause-stopped c =
     let halted : IsHalted task c.args.first.now.flags c.guard_all-outcome.new.progress c.in-Err.row_fault.fault c.in-Err.row_fault.row =
     subst (λ (f : List Bool). IsHalted task f c.guard_all-outcome.new.progress c.in-Err.row_fault.fault c.in-Err.row_fault.row) flags c.in-Err.ensures.err in
     stops_told task c.args.first.now.flags c.guard_all-outcome.new.progress c.in-Err.row_fault.fault c.in-Err.row_fault.row c.guard_all-outcome.new.progress.extras c.empty-in-Err.result c.stop_with.result refl c.empty-in-Err.ensures c.stop_with.ensures.fault c.stop_with.ensures.row c.stop_with.ensures.extras c.stop_with.ensures.dropped halted
+
+pub narrow-requires-clause-ready : goal.narrow-requires-clause-ready
+narrow-requires-clause-ready c =
+    let task = c.args.task.now in
+    let progress : Progress = c.guard_all-outcome.new.progress in
+    let held : AreHeldBefore task (length task.attacks.now) progress = subst (AreHeldOr task (length task.attacks.now) progress) c.in-None.is c.in-Ok-outcome.ensures.ok in
+    record {
+      begins_permitted = c.requires.permitted;
+      set = c.guard_all-outcome.ensures.ready;
+      holds = subst (λ (l : List Attack). AreGuardsOf task progress.hidden.flags l progress.guards) (take-length task.attacks.now) held;
+    }

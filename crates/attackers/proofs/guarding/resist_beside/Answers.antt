@@ -4,12 +4,12 @@ use Rattle.sdc_base.specs.declared.cell.Cell.{Cell}
 use Rattle.sdc_base.specs.declared.hidden.Hidden.{Hidden}
 use Rattle.sdc_base.specs.declared.system.System.{System}
 use Rattle.worlds.specs.ProtectFaults.{protect_fault}
+use Rattle.worlds.proofs.TrueTests.{err_more}
 use Rattle.attackers.specs.GuardStops.{IsStopAsTold}
 use Rattle.attackers.specs.Narrowing.{IsOutcome}
 use Rattle.attackers.specs.ContributorTasks.{case_of}
 use Rattle.attackers.proofs.Concluding.{guarded, stopped}
 use Rattle.attackers.proofs.GuardOrder.{ProtectedSays, protected_says}
-use Rattle.attackers.proofs.Holding.{err_where}
 use Rattle.attackers.proofs.Turns.{turns_are}
 use Rattle.attackers.proofs.Wholeness.{outcome_whole, told_whole}
 use Rattle.repair.proofs.Concluding.{where_ok}
@@ -56,9 +56,9 @@ returns-clause-stopped c =
     subst (λ (s : System). protect_fault s task.cells.now first c.args.protected.now.worlds ≡ Ok tt) c.requires.of_system
     (subst (λ (cells : List Cell). protect_fault c.args.protected.now.system cells first c.args.protected.now.worlds ≡ Ok tt) c.requires.of_cells c.worlds-worlds.ensures.checked) in
     let says : ProtectedSays task.system.now task.cells.now first c.args.protected.now.worlds = protected_says task.system.now task.cells.now first c.args.protected.now.worlds task.fits.one_each fine in
-    err_where c.resist.result c.resist.ensures.stopped (λ stop is.
+    err_more c.resist.result (λ stop is.
     stopped task first c.args.protected.now.worlds stop says c.requires.left
-    (subst (λ (h : Hidden). IsStopAsTold (case_of task) task.soles.now task.prices.now task.attacks.now h.flags task.limit stop) c.hidden.ensures.hidden is))
+    (subst (λ (h : Hidden). IsStopAsTold (case_of task) task.soles.now task.prices.now task.attacks.now h.flags task.limit stop) c.hidden.ensures.hidden is)) c.resist.ensures.stopped
 
 pub returns-clause-whole : goal.returns-clause-whole
 returns-clause-whole c = λ signs are.
@@ -67,4 +67,4 @@ returns-clause-whole c = λ signs are.
 pub returns-clause-whole_stop : goal.returns-clause-whole_stop
 returns-clause-whole_stop c = λ signs are.
     let task = c.args.task.now in
-    err_where c.resist.result c.resist.ensures.stopped (λ stop is. told_whole (case_of task) task.soles.now task.prices.now task.attacks.now c.hidden.result.now.flags signs task.limit stop are is)
+    err_more c.resist.result (λ stop is. told_whole (case_of task) task.soles.now task.prices.now task.attacks.now c.hidden.result.now.flags signs task.limit stop are is) c.resist.ensures.stopped

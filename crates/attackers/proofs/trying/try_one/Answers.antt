@@ -1,6 +1,6 @@
-use Rattle.std.proofs.Common.{◌≡◌, ◌<◌, ◌+◌, ◌++◌, ◌∷◌, [], ◌∙◌, not, true, ℕ, List, Bool, false, length, length-set, ap, sym, subst, arith}
+use Rattle.std.proofs.Common.{◌≡◌, ◌<◌, ◌+◌, ◌++◌, ◌∷◌, [], ◌∙◌, not, true, ℕ, List, Bool, length, ap, sym, subst, arith}
 use Rattle.std.proofs.lemmas.Result.{err_from_is_err_and}
-use Rattle.sdc_base.specs.HiddenSets.{is_hidden, IsPermitted, hide, show}
+use Rattle.sdc_base.specs.HiddenSets.{is_hidden, hide, show}
 use Rattle.worlds.proofs.TrueTests.{on_ok, and_true, ok_more}
 use Rattle.certificate.specs.declared.certificate.WorldLine.{WorldLine}
 use Rattle.repair.proofs.Tries.{hidden_again, on_ok_two}
@@ -8,26 +8,21 @@ use Rattle.certificate.specs.declared.extra.ExtraNeed.{ExtraNeed}
 use Rattle.attackers.specs.declared.trial.Trial.TheVariants as trial
 use Rattle.attackers.specs.ContributorTasks.{case_of, HoldGuards, IsReadySet}
 use Rattle.attackers.specs.Dropping.{renewed_guards, IsTrial, IsTried, IsTryStop, IsNeedFor, HasFault}
-use Rattle.attackers.proofs.Tries.{one_dropped, one_needed, try_stop, tries_stop, permitted_less}
+use Rattle.attackers.proofs.Tries.{one_dropped, one_needed, try_stop, tries_stop, ready_less}
 use Rattle.attackers.proofs.trying.try_one.Goals as goal
 
 pub invariant_of-attempt : goal.invariant_of-attempt
-invariant_of-attempt c =
-    let task = c.args.task.now in
-    let flags : List Bool = c.args.progress.now.hidden.flags in
-    record {
-      set = subst (λ (f : List Bool). IsReadySet task f) (sym c.show.ensures) (record {
-        each = length-set flags c.args.cell false ∙ c.requires.each;
-        permitted = permitted_less task.cells.now c.args.first.now.flags flags c.args.cell c.requires.extra c.requires.first c.requires.permitted;
-      });
-    }
+invariant_of-attempt c = record {
+  set = subst (IsReadySet c.args.task.now) (sym c.show.ensures)
+      (ready_less c.args.task.now c.args.first.now.flags c.args.progress.now.hidden.flags c.args.cell c.requires.extra c.requires.ready.begins_permitted c.requires.ready.set);
+}
 
 pub returns-in_err-trial-clause-err : goal.returns-in_err-trial-clause-err
 returns-in_err-trial-clause-err c =
     let task = c.args.task.now in
     let first : List Bool = c.args.first.now.flags in
     let flags : List Bool = c.args.progress.now.hidden.flags in
-    let inside : c.args.cell < length flags = omega (arith, c.requires.each, task.fits.one_each, c.requires.inside) in
+    let inside : c.args.cell < length flags = omega (arith, c.requires.ready.set.each, task.fits.one_each, c.requires.inside) in
     let has : HasFault (case_of task) task.soles.now task.attacks.now (show flags c.args.cell) task.limit c.in_err-trial.field-0.0.fault c.in_err-trial.field-0.0.row =
     subst (λ (f : List Bool). HasFault (case_of task) task.soles.now task.attacks.now f task.limit c.in_err-trial.field-0.0.fault c.in_err-trial.field-0.0.row) c.show.ensures c.in_err-trial.ensures.err in
     let p = err_from_is_err_and c.from_residual.result c.from_residual.ensures.1 in
@@ -36,19 +31,18 @@ returns-in_err-trial-clause-err c =
     (subst (λ (l : List ℕ). IsTryStop (case_of task) task.soles.now task.attacks.now first larger task.limit c.in_err-trial.field-0.0.fault c.in_err-trial.field-0.0.row l) (sym c.in-Ok.ensures.ok)
     (try_stop (case_of task) task.soles.now task.attacks.now first larger c.args.cell flags c.args.progress.now.guards c.args.found.now.needs c.args.found.now.dropped task.limit c.in_err-trial.field-0.0.fault c.in_err-trial.field-0.0.row task.fits.one_each task.fits.are_attacks inside c.requires.extra has before)))
 
-pub returns-in-Renewed-clause-permitted : goal.returns-in-Renewed-clause-permitted
-returns-in-Renewed-clause-permitted c =
-    let task = c.args.task.now in
-    let flags : List Bool = c.args.progress.now.hidden.flags in
-    let less : IsPermitted task.cells.now (show flags c.args.cell) = permitted_less task.cells.now c.args.first.now.flags flags c.args.cell c.requires.extra c.requires.first c.requires.permitted in
-    on_ok (IsPermitted task.cells.now c.take_new.new.progress.hidden.flags) c.take_new.result (subst (IsPermitted task.cells.now) (sym (c.take_new.ensures.flags ∙ c.show.ensures)) less)
+pub returns-in-Renewed-clause-set : goal.returns-in-Renewed-clause-set
+returns-in-Renewed-clause-set c =
+    on_ok (IsReadySet c.args.task.now c.take_new.new.progress.hidden.flags) c.take_new.result
+    (subst (IsReadySet c.args.task.now) (sym (c.take_new.ensures.flags ∙ c.show.ensures))
+    (ready_less c.args.task.now c.args.first.now.flags c.args.progress.now.hidden.flags c.args.cell c.requires.extra c.requires.ready.begins_permitted c.requires.ready.set))
 
 pub returns-in-Renewed-clause-ok : goal.returns-in-Renewed-clause-ok
 returns-in-Renewed-clause-ok c =
     let task = c.args.task.now in
     let first : List Bool = c.args.first.now.flags in
     let flags : List Bool = c.args.progress.now.hidden.flags in
-    let inside : c.args.cell < length flags = omega (arith, c.requires.each, task.fits.one_each, c.requires.inside) in
+    let inside : c.args.cell < length flags = omega (arith, c.requires.ready.set.each, task.fits.one_each, c.requires.inside) in
     let told : IsTrial task c.show.new.self.flags c.args.cell c.as_slice.result.now (trial.Renewed c.in-Renewed.news) = subst (IsTrial task c.show.new.self.flags c.args.cell c.as_slice.result.now) c.in-Renewed.is c.in_ok-trial.ensures.ok in
     ok_more c.take_new.result (λ guards larger before.
     let held : HoldGuards (case_of task) task.soles.now (show flags c.args.cell) task.attacks.now c.take_new.new.progress.guards =
@@ -59,21 +53,21 @@ returns-in-Renewed-clause-ok c =
     (subst (λ (l : List ℕ). IsTried (case_of task) task.soles.now task.attacks.now first larger (c.args.cell + 1) (show flags c.args.cell) c.take_new.new.progress.guards c.args.found.now.needs l) (sym c.in-Ok.ensures.ok)
     (one_dropped (case_of task) task.soles.now task.attacks.now first larger c.args.cell flags c.args.progress.now.guards c.take_new.new.progress.guards c.args.found.now.needs c.args.found.now.dropped inside c.requires.extra held before))) c.take_new.ensures.guards
 
-pub returns-in-Refused-clause-permitted : goal.returns-in-Refused-clause-permitted
-returns-in-Refused-clause-permitted c =
+pub returns-in-Refused-clause-set : goal.returns-in-Refused-clause-set
+returns-in-Refused-clause-set c =
     let task = c.args.task.now in
     let flags : List Bool = c.args.progress.now.hidden.flags in
-    let inside : c.args.cell < length flags = omega (arith, c.requires.each, task.fits.one_each, c.requires.inside) in
+    let inside : c.args.cell < length flags = omega (arith, c.requires.ready.set.each, task.fits.one_each, c.requires.inside) in
     let hidden : is_hidden flags c.args.cell ≡ true = (and_true (is_hidden flags c.args.cell) (not (is_hidden c.args.first.now.flags c.args.cell)) c.requires.extra).0 in
     let same : c.put_back.new.progress.hidden.flags ≡ flags = c.put_back.ensures.flags ∙ ap (λ (f : List Bool). hide f c.args.cell) c.show.ensures ∙ hidden_again flags c.args.cell inside hidden in
-    on_ok (IsPermitted task.cells.now c.put_back.new.progress.hidden.flags) c.put_back.result (subst (IsPermitted task.cells.now) (sym same) c.requires.permitted)
+    on_ok (IsReadySet task c.put_back.new.progress.hidden.flags) c.put_back.result (subst (IsReadySet task) (sym same) c.requires.ready.set)
 
 pub returns-in-Refused-clause-ok : goal.returns-in-Refused-clause-ok
 returns-in-Refused-clause-ok c =
     let task = c.args.task.now in
     let first : List Bool = c.args.first.now.flags in
     let flags : List Bool = c.args.progress.now.hidden.flags in
-    let inside : c.args.cell < length flags = omega (arith, c.requires.each, task.fits.one_each, c.requires.inside) in
+    let inside : c.args.cell < length flags = omega (arith, c.requires.ready.set.each, task.fits.one_each, c.requires.inside) in
     let hidden : is_hidden flags c.args.cell ≡ true = (and_true (is_hidden flags c.args.cell) (not (is_hidden first c.args.cell)) c.requires.extra).0 in
     let same : c.put_back.new.progress.hidden.flags ≡ flags = c.put_back.ensures.flags ∙ ap (λ (f : List Bool). hide f c.args.cell) c.show.ensures ∙ hidden_again flags c.args.cell inside hidden in
     let told : IsTrial task c.show.new.self.flags c.args.cell c.as_slice.result.now (trial.Refused c.in-Refused.need) = subst (IsTrial task c.show.new.self.flags c.args.cell c.as_slice.result.now) c.in-Refused.is c.in_ok-trial.ensures.ok in

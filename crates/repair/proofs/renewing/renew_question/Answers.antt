@@ -12,7 +12,7 @@ use Rattle.repair.specs.HidingOrder.{Case, protected_case, StandsAt}
 use Rattle.repair.specs.KeptWorlds.{AreServedBefore}
 use Rattle.repair.specs.CellTrials.{fits, IsKept, AreKept}
 use Rattle.repair.proofs.AtHand.{fitting_serves, kept_at, kept_set, served_next, served_set, protects_before, none_refuted}
-use Rattle.repair.proofs.Order.{asked_primary}
+use Rattle.repair.proofs.Answering.{askable_by}
 use Rattle.repair.proofs.Repairing.{given_refutes, serving_by, stands_there}
 use Rattle.repair.proofs.renewing.renew_question.Goals as goal
 
@@ -29,12 +29,11 @@ returns-then-fits-clause-served c =
     let own : IsKept task asked c.index-own-place.result = kept_at task (asked_of 0 c.args.task.now.cells.now) c.args.worlds.now c.args.place asked c.index-own-place.result stands kept c.requires.set.kept in
     served_next task flags c.args.worlds.now c.args.place asked c.index-own-place.result stands kept (fitting_serves task flags asked c.index-own-place.result fit own) c.requires.served
 
-pub ask_level-requires-clause-set : goal.ask_level-requires-clause-set
-ask_level-requires-clause-set c = record { each = c.requires.set.each; permitted = c.requires.set.permitted }
-
-pub ask_level-requires-clause-primary : goal.ask_level-requires-clause-primary
-ask_level-requires-clause-primary c =
-    asked_primary c.args.task.now.cells.now c.args.place (get_or c.args.task.now.questions.now c.args.place (0, Above)) (stands_there c.args.task.now.cells.now c.args.task.now.questions.now c.args.place (0, Above) c.args.task.now.fits.in_order c.requires.place)
+pub invariant_of-question : goal.invariant_of-question
+invariant_of-question c = record {
+  is_askable = askable_by c.args.task.now c.args.hidden.now.flags c.args.place (get_or c.args.task.now.questions.now c.args.place (0, Above)) c.requires.set.each c.requires.set.permitted
+      (stands_there c.args.task.now.cells.now c.args.task.now.questions.now c.args.place (0, Above) c.args.task.now.fits.in_order c.requires.place);
+}
 
 pub returns-in_err-answer-clause-err : goal.returns-in_err-answer-clause-err
 returns-in_err-answer-clause-err c =

@@ -12,16 +12,15 @@ use Rattle.repair.proofs.OnTheWay.{given_by, first_whole, answers_push}
 use Rattle.repair.specs.HidingOrder.{Case, protected_case, StandsAt}
 use Rattle.repair.specs.KeptWorlds.{AreServedBefore, IsRepaired}
 use Rattle.repair.specs.Stops.{IsQuestion}
-use Rattle.repair.proofs.Order.{asked_primary}
+use Rattle.repair.proofs.Answering.{askable_by}
 use Rattle.repair.proofs.Repairing.{question_of, one_served, serving_by, stopped_by, stands_there}
 use Rattle.repair.proofs.serving.ask_once.Goals as goal
 
-pub ask_level-requires-clause-set : goal.ask_level-requires-clause-set
-ask_level-requires-clause-set c = record { each = c.requires.ready.each; permitted = c.requires.ready.permitted }
-
-pub ask_level-requires-clause-primary : goal.ask_level-requires-clause-primary
-ask_level-requires-clause-primary c =
-    asked_primary c.args.task.now.cells.now c.args.place (get_or c.args.task.now.questions.now c.args.place (0, Above)) (stands_there c.args.task.now.cells.now c.args.task.now.questions.now c.args.place (0, Above) c.args.task.now.fits.in_order c.requires.place)
+pub invariant_of-question : goal.invariant_of-question
+invariant_of-question c = record {
+  is_askable = askable_by c.args.task.now c.args.progress.now.hidden.flags c.args.place (get_or c.args.task.now.questions.now c.args.place (0, Above)) c.requires.ready.each c.requires.ready.permitted
+      (stands_there c.args.task.now.cells.now c.args.task.now.questions.now c.args.place (0, Above) c.args.task.now.fits.in_order c.requires.place);
+}
 
 pub returns-in_err-answer-clause-err : goal.returns-in_err-answer-clause-err
 returns-in_err-answer-clause-err c =

@@ -9,8 +9,15 @@ use Rattle.repair.proofs.trial.first_need.Goals as goal
 
 pub need_at-requires-clause-count : goal.need_at-requires-clause-count
 need_at-requires-clause-count c =
-    kept_length (protected_case c.args.attempt.now.task.now.system.now c.args.attempt.now.task.now.cells.now) (asked_of 0 c.args.attempt.now.task.now.cells.now) c.args.attempt.now.worlds.now c.requires.kept
+    kept_length (protected_case c.args.attempt.now.task.now.system.now c.args.attempt.now.task.now.cells.now) (asked_of 0 c.args.attempt.now.task.now.cells.now) c.args.attempt.now.worlds.now c.requires.at_hand.kept
     ∙ ap (λ (l : List (ℕ × Side)). length l) (sym c.args.attempt.now.task.now.fits.in_order)
+
+pub need_at-requires-clause-at_hand : goal.need_at-requires-clause-at_hand
+need_at-requires-clause-at_hand c = record {
+  kept = c.requires.at_hand.kept;
+  reusable = c.places.invariant.reusable;
+  last = c.places.invariant.last;
+}
 
 pub returns-in_err-need-clause-err : goal.returns-in_err-need-clause-err
 returns-in_err-need-clause-err c =

@@ -11,7 +11,7 @@ use Rattle.repair.specs.CellTrials.{fits, last_fits, IsKept, AreLast}
 use Rattle.repair.proofs.AtHand.{fitting_serves, kept_at, protects_next, refuted_by}
 use Rattle.repair.proofs.Growing.{serving_protects}
 use Rattle.repair.proofs.LastWorlds.{last_protects, last_set}
-use Rattle.repair.proofs.Order.{asked_primary}
+use Rattle.repair.proofs.Answering.{askable_by}
 use Rattle.repair.proofs.Repairing.{serving_by, stands_there}
 use Rattle.repair.proofs.trial.need_at.Goals as goal
 
@@ -23,7 +23,7 @@ returns-then-fits-clause-ok c =
     let stands : StandsAt c.args.attempt.now.task.now.cells.now asked c.args.place = stands_there c.args.attempt.now.task.now.cells.now c.args.attempt.now.task.now.questions.now c.args.place (0, Above) c.args.attempt.now.task.now.fits.in_order c.requires.place in
     let within : c.args.place < length c.args.attempt.now.worlds.now = omega (arith, c.requires.place, c.requires.count) in
     let kept : slice_get c.args.attempt.now.worlds.now c.args.place ≡ Some c.index-worlds-place.result = slice_get_read c.args.attempt.now.worlds.now (length c.args.attempt.now.worlds.now) c.args.place c.index-worlds-place.result refl within c.index-worlds-place.is in
-    let own : IsKept task asked c.index-worlds-place.result = kept_at task (asked_of 0 c.args.attempt.now.task.now.cells.now) c.args.attempt.now.worlds.now c.args.place asked c.index-worlds-place.result stands kept c.requires.kept in
+    let own : IsKept task asked c.index-worlds-place.result = kept_at task (asked_of 0 c.args.attempt.now.task.now.cells.now) c.args.attempt.now.worlds.now c.args.place asked c.index-worlds-place.result stands kept c.requires.at_hand.kept in
     let fit : fits flags c.index-worlds-place.result ≡ true = subst (λ (f : List Bool). fits f c.index-worlds-place.result ≡ true) c.as_slice-flags.ensures (sym c.fits.ensures ∙ c.if-fits.true) in
     let serving : IsServing task flags asked c.index-worlds-place.result = fitting_serves task flags asked c.index-worlds-place.result fit own in
     protects_next task flags c.args.place asked stands (serving_protects task flags asked c.index-worlds-place.result serving) c.requires.before
@@ -38,13 +38,16 @@ returns-then-has_fitting-clause-ok c =
     let fit : last_fits flags worlds c.args.place ≡ true =
     subst (λ (f : List Bool). last_fits f worlds c.args.place ≡ true) c.as_slice-flags.ensures
     (subst (λ (l : List (Option World)). last_fits c.as_slice-flags.result.now l c.args.place ≡ true) c.as_slice.ensures.value (sym c.has_fitting.ensures ∙ c.if-has_fitting.true)) in
-    protects_next task flags c.args.place asked stands (last_protects task flags worlds c.args.place asked stands c.requires.last fit) c.requires.before
+    protects_next task flags c.args.place asked stands (last_protects task flags worlds c.args.place asked stands c.requires.at_hand.last fit) c.requires.before
 
 pub walked_refusal-requires-clause-stands : goal.walked_refusal-requires-clause-stands
 walked_refusal-requires-clause-stands c = stands_there c.args.attempt.now.task.now.cells.now c.args.attempt.now.task.now.questions.now c.args.place (0, Above) c.args.attempt.now.task.now.fits.in_order c.requires.place
 
-pub ask_kept-requires-clause-primary : goal.ask_kept-requires-clause-primary
-ask_kept-requires-clause-primary c = asked_primary c.args.attempt.now.task.now.cells.now c.args.place (get_or c.args.attempt.now.task.now.questions.now c.args.place (0, Above)) (stands_there c.args.attempt.now.task.now.cells.now c.args.attempt.now.task.now.questions.now c.args.place (0, Above) c.args.attempt.now.task.now.fits.in_order c.requires.place)
+pub invariant_of-question : goal.invariant_of-question
+invariant_of-question c = record {
+  is_askable = askable_by c.args.attempt.now.task.now c.args.attempt.now.hidden.now.flags c.args.place (get_or c.args.attempt.now.task.now.questions.now c.args.place (0, Above)) c.args.attempt.now.set.each c.args.attempt.now.set.permitted
+      (stands_there c.args.attempt.now.task.now.cells.now c.args.attempt.now.task.now.questions.now c.args.place (0, Above) c.args.attempt.now.task.now.fits.in_order c.requires.place);
+}
 
 pub returns-in-Reaches-clause-last : goal.returns-in-Reaches-clause-last
 returns-in-Reaches-clause-last c =
@@ -53,7 +56,7 @@ returns-in-Reaches-clause-last c =
     let asked : ℕ × Side = get_or c.args.attempt.now.task.now.questions.now c.args.place (0, Above) in
     let stands : StandsAt c.args.attempt.now.task.now.cells.now asked c.args.place = stands_there c.args.attempt.now.task.now.cells.now c.args.attempt.now.task.now.questions.now c.args.place (0, Above) c.args.attempt.now.task.now.fits.in_order c.requires.place in
     let given : IsGiven (λ set. set ≡ flags) task.system task.cells asked c.in-Reaches.world = subst (IsLevelAnswer c.args.attempt.now.task.now.system.now c.args.attempt.now.task.now.cells.now flags asked) c.in-Reaches.is c.in-Some.ensures.answer in
-    subst (AreLast task) (sym c.keep_last.ensures) (last_set task c.args.last.now.items c.args.place asked c.in-Reaches.world stands (flags, serving_by task flags c.args.place asked c.in-Reaches.world stands given) c.requires.last)
+    subst (AreLast task) (sym c.keep_last.ensures) (last_set task c.args.last.now.items c.args.place asked c.in-Reaches.world stands (flags, serving_by task flags c.args.place asked c.in-Reaches.world stands given) c.requires.at_hand.last)
 
 pub returns-in-Reaches-clause-ok : goal.returns-in-Reaches-clause-ok
 returns-in-Reaches-clause-ok c =

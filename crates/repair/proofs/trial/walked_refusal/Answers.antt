@@ -11,6 +11,7 @@ use Rattle.repair.specs.OnTheWay.{IsOfTrial}
 use Rattle.repair.proofs.OnTheWay.{given_by, trials_more}
 use Rattle.repair.proofs.AtHand.{protects_at_hand, protects_next, refuted_by, spare_kept}
 use Rattle.repair.proofs.Growing.{serving_protects}
+use Rattle.repair.proofs.Answering.{askable_by}
 use Rattle.repair.proofs.Order.{asked_primary}
 use Rattle.repair.proofs.Repairing.{serving_by}
 use Rattle.repair.proofs.trial.walked_refusal.Goals as goal
@@ -33,8 +34,10 @@ returns-then-is_at_hand-clause-ok c =
     protects_next task flags c.args.place asked stands
     (protects_at_hand task flags asked is.cell (asked_of 0 c.args.attempt.now.task.now.cells.now) c.args.attempt.now.worlds.now c.as_slice.result.now is.found c.requires.kept reusable test) c.requires.before
 
-pub ask_walk-requires-clause-primary : goal.ask_walk-requires-clause-primary
-ask_walk-requires-clause-primary c = asked_primary c.args.attempt.now.task.now.cells.now c.args.place c.args.asked c.requires.stands
+pub invariant_of-question : goal.invariant_of-question
+invariant_of-question c = record {
+  is_askable = askable_by c.args.attempt.now.task.now c.args.attempt.now.hidden.now.flags c.args.place c.args.asked c.args.attempt.now.set.each c.args.attempt.now.set.permitted c.requires.stands;
+}
 
 pub returns-in_err-answer-clause-err : goal.returns-in_err-answer-clause-err
 returns-in_err-answer-clause-err c =

@@ -3,7 +3,7 @@ use Rattle.std.proofs.Common.{◌≡◌, ◌==◌, ◌∙◌, [], ◌+◌, false
 use Rattle.std.proofs.lemmas.List.Elements.{All-nil}
 use Rattle.worlds.specs.declared.refuted.Refuted.{Refuted}
 use Rattle.worlds.specs.ProtectFaults.{asked_of}
-use Rattle.worlds.proofs.TrueTests.{ok_more}
+use Rattle.worlds.proofs.TrueTests.{err_more, ok_more}
 use Rattle.sdc_base.specs.declared.side.Side.{Side}
 use Rattle.repair.specs.HidingOrder.{Case, protected_case, hide_subjects}
 use Rattle.repair.specs.CellTrials.{AreReusableTables, IsReusableTable, IsTrialAnswer, AreTrialAnswers, AnswerTrials, AnswerOnWay, IsTried}
@@ -13,7 +13,7 @@ use Rattle.repair.specs.Attempts.{is_open_at}
 use Rattle.repair.proofs.Attempts.{one_closed, open_says}
 use Rattle.repair.proofs.AtHand.{kept_by}
 use Rattle.repair.proofs.Growing.{served_protect}
-use Rattle.repair.proofs.Tries.{none_tried, some_shown, end_stop, tries_stop, on_err_from}
+use Rattle.repair.proofs.Tries.{none_tried, some_shown, end_stop, tries_stop}
 use Rattle.repair.proofs.trying.try_all.Goals as goal
 
 pub cells-init : goal.cells-init
@@ -74,7 +74,7 @@ returns-clause-err c =
     let none : (length shown == 0) ≡ false = ap (λ (l : List ℕ). length l == 0) (sym c.as_slice-2.ensures) ∙ sym c.is_empty.ensures ∙ c.if-is_empty.false in
     let last : c.cells.number ≡ length c.args.task.now.cells.now = omega (arith, c.cells-test.false, c.cells.auto.number-end) in
     let all : IsTried task larger (length c.args.task.now.cells.now) flags c.cells.tried.needs shown = subst (λ n. IsTried task larger n flags c.cells.tried.needs shown) last c.cells.invariant.tried.are_tried in
-    on_err_from c.renew_all.result (λ fault has. tries_stop task larger c.args.task.now.limit fault shown
+    err_more c.renew_all.result (λ fault has. tries_stop task larger c.args.task.now.limit fault shown
     (end_stop task larger flags c.cells.tried.needs shown c.args.task.now.limit fault c.args.task.now.fits.one_each (some_shown shown none) has all)) c.renew_all.ensures.err
 
 pub returns-then-is_empty-clause-answers : goal.returns-then-is_empty-clause-answers

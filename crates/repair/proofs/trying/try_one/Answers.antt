@@ -25,10 +25,16 @@ invariant_of-attempt c =
       set = subst (λ (f : List Bool). IsPermittedSet task f) (sym c.show.ensures) (record { each = less.each; permitted = less.permitted });
     }
 
-pub first_need-requires-clause-kept : goal.first_need-requires-clause-kept
-first_need-requires-clause-kept c =
+pub first_need-requires : goal.first_need-requires
+first_need-requires c =
     let task : Case = protected_case c.args.task.now.system.now c.args.task.now.cells.now in
-    subst (λ (ws : List World). AreKept task (asked_of 0 c.args.task.now.cells.now) ws) (sym c.as_slice.ensures) c.requires.ready.set.kept
+    record {
+      at_hand = record {
+        kept = subst (λ (ws : List World). AreKept task (asked_of 0 c.args.task.now.cells.now) ws) (sym c.as_slice.ensures) c.requires.ready.set.kept;
+        reusable = c.requires.ready.reusable;
+        last = c.requires.ready.last;
+      };
+    }
 
 pub returns-in_err-found-clause-err : goal.returns-in_err-found-clause-err
 returns-in_err-found-clause-err c =
