@@ -14,13 +14,14 @@ use Rattle.job_inputs.specs.declared.file_ref.FileRef.{FileRef}
 use Rattle.job_inputs.specs.declared.file_ref.FileRef.TheVariants as file
 use Rattle.job_inputs.specs.declared.stop.InputStop.{InputStop}
 use Rattle.job_inputs.specs.declared.stop.InputStop.TheVariants as input
-use Rattle.job_audit.specs.Finding.{IsAuditFileAnswer, IsFileOf, IsUndecidedFor}
 use Rattle.job_inputs.specs.declared.purpose.Purpose.TheVariants.{Audit}
+use Rattle.published_tables.specs.AuditFindings.{audit_finding}
+use Rattle.published_tables.specs.Findings.{IsFileAnswer, IsFileOf, IsUndecidedFor}
+use Rattle.published_tables.specs.TableStops.{reading_of as finding_of}
 use Rattle.published_tables.specs.TablesOnShelf.{ShelvedTables, shelved_for, ComesFor}
-use Rattle.job_audit.specs.Stops.{reading_of as finding_of}
-use Rattle.job_audit.specs.declared.audit_file.AuditFile.{AuditFile}
-use Rattle.job_audit.specs.declared.stop.AuditStop.{AuditStop}
-use Rattle.job_audit.specs.declared.stop.AuditStop.TheVariants as stop
+use Rattle.published_tables.specs.declared.audit_file.AuditFile.{AuditFile}
+use Rattle.published_tables.specs.declared.table_stop.TableStop.{TableStop}
+use Rattle.published_tables.specs.declared.table_stop.TableStop.TheVariants as stop
 use Rattle.job_run.specs.AuditRuns.{IsAuditAnswer, MeetsAudit, IsAuditPut, IsAuditPart, AuditLeaves, SettlesAudit, IsAuditRunOf}
 use Rattle.job_run.specs.Reporting.{inputs_report, question_report, IsQuestionReport}
 use Rattle.job_run.specs.Reports.{FaultsHaveCauses, LeavesAll, reading_of}
@@ -30,7 +31,7 @@ use Rattle.job_run.proofs.IntervalRuns.{ok-is, question-cause, question-comes, q
 use Rattle.job_run.proofs.Outcomes.{memory-comes, read-comes, inputs-cause, inputs-come, inputs-leave-all, no-fault, read-counted}
 
 -- the report of an audit that wasn't found
-abbrev pub stop_report : AuditStop → Report
+abbrev pub stop_report : TableStop → Report
 stop_report (stop.Inputs why) = inputs_report why
 stop_report (stop.NotAccepted why) = report.NotAccepted why
 stop_report (stop.Undecided why) = question_report why
@@ -42,17 +43,17 @@ inputs-meet (input.Refused f) outcome h = h
 inputs-meet (input.ReadFault f) outcome h = tt
 inputs-meet input.Memory outcome h = tt
 
-reported : (shelved : ShelvedTables) (why : AskFault) → IsUndecidedFor shelved why → IsQuestionReport (IsUndecidedFor shelved) (question_report why)
+reported : (shelved : ShelvedTables) (why : AskFault) → IsUndecidedFor audit_finding shelved why → IsQuestionReport (IsUndecidedFor audit_finding shelved) (question_report why)
 reported shelved why h = record { fault = why; is_report = refl; is_stuck = h }
 
-question-meets : (why : AskFault) (outcome : Result ShelvedTables Fault) → IsOkAnd outcome (λ one. IsUndecidedFor one why) → MeetsAudit (question_report why) outcome
+question-meets : (why : AskFault) (outcome : Result ShelvedTables Fault) → IsOkAnd outcome (λ one. IsUndecidedFor audit_finding one why) → MeetsAudit (question_report why) outcome
 question-meets (ask.Work walk) (Ok shelved) h = reported shelved (ask.Work walk) h
 question-meets (ask.Wide walk place) (Ok shelved) h = reported shelved (ask.Wide walk place) h
 question-meets (ask.Size question hidden) (Ok shelved) h = reported shelved (ask.Size question hidden) h
 question-meets ask.Memory (Ok shelved) h = tt
 question-meets why (Err f) h = absurd h
 
-stop-meets : (e : AuditStop) (outcome : Result ShelvedTables Fault) → IsAuditFileAnswer outcome (Err e) → MeetsAudit (stop_report e) outcome
+stop-meets : (e : TableStop) (outcome : Result ShelvedTables Fault) → IsFileAnswer audit_finding outcome (Err e) → MeetsAudit (stop_report e) outcome
 stop-meets (stop.Inputs why) outcome h = inputs-meet why outcome h
 stop-meets (stop.NotAccepted why) outcome h = h
 stop-meets (stop.Undecided why) outcome h = question-meets why outcome h
@@ -68,22 +69,22 @@ question-leaves (ask.Wide walk place) outcome out tray = refl
 question-leaves (ask.Size question hidden) outcome out tray = refl
 question-leaves ask.Memory outcome out tray = refl
 
-stop-leaves : (e : AuditStop) (outcome : Result ShelvedTables Fault) (out : List ℕ) (tray : TrayState) → AuditLeaves (stop_report e) outcome out tray tray
+stop-leaves : (e : TableStop) (outcome : Result ShelvedTables Fault) (out : List ℕ) (tray : TrayState) → AuditLeaves (stop_report e) outcome out tray tray
 stop-leaves (stop.Inputs why) outcome out tray = inputs-leave why outcome out tray
 stop-leaves (stop.NotAccepted why) outcome out tray = refl
 stop-leaves (stop.Undecided why) outcome out tray = question-leaves why outcome out tray
 
-pub stop-leaves-all : (e : AuditStop) (tray : TrayState) → LeavesAll (stop_report e) tray tray
+pub stop-leaves-all : (e : TableStop) (tray : TrayState) → LeavesAll (stop_report e) tray tray
 stop-leaves-all (stop.Inputs why) tray = inputs-leave-all why tray
 stop-leaves-all (stop.NotAccepted why) tray = refl
 stop-leaves-all (stop.Undecided why) tray = question-leaves-all why tray
 
-pub stop-cause : (e : AuditStop) (old new : ShelfState) (tray : TrayState) → HasCause (finding_of (Err e)) old new → FaultsHaveCauses (stop_report e) old new tray tray
+pub stop-cause : (e : TableStop) (old new : ShelfState) (tray : TrayState) → HasCause (finding_of (Err e)) old new → FaultsHaveCauses (stop_report e) old new tray tray
 stop-cause (stop.Inputs why) old new tray cause = inputs-cause why old new tray cause
 stop-cause (stop.NotAccepted why) old new tray cause = no-fault _ old new tray tray refl (λ f is. absurd cc)
 stop-cause (stop.Undecided why) old new tray cause = question-cause why old new tray
 
-stop-comes : (e : AuditStop) (comes : FileRef → List ℕ → Type 0) (files : Files) (new : ShelfState) → ReachedFile comes (finding_of (Err e)) files new → ReachedFile comes (reading_of (stop_report e)) files new
+stop-comes : (e : TableStop) (comes : FileRef → List ℕ → Type 0) (files : Files) (new : ShelfState) → ReachedFile comes (finding_of (Err e)) files new → ReachedFile comes (reading_of (stop_report e)) files new
 stop-comes (stop.Inputs why) comes files new come = inputs-come why comes files new come
 stop-comes (stop.NotAccepted why) comes files new come = read-comes comes files new
 stop-comes (stop.Undecided why) comes files new come = question-comes why comes files new
@@ -99,7 +100,7 @@ question-puts-none (ask.Wide walk place) n m is = absurd cc
 question-puts-none (ask.Size question hidden) n m is = absurd cc
 question-puts-none ask.Memory n m is = absurd cc
 
-stop-puts-none : (e : AuditStop) (n m : ℕ) → stop_report e ≢ report.Audited n m
+stop-puts-none : (e : TableStop) (n m : ℕ) → stop_report e ≢ report.Audited n m
 stop-puts-none (stop.Inputs why) n m is = inputs-put-none why n m is
 stop-puts-none (stop.NotAccepted why) n m is = absurd cc
 stop-puts-none (stop.Undecided why) n m is = question-puts-none why n m is
@@ -115,7 +116,7 @@ question-answers (ask.Wide walk place) = tt
 question-answers (ask.Size question hidden) = tt
 question-answers ask.Memory = tt
 
-stop-answers : (e : AuditStop) → IsAuditAnswer (stop_report e)
+stop-answers : (e : TableStop) → IsAuditAnswer (stop_report e)
 stop-answers (stop.Inputs why) = inputs-answer why
 stop-answers (stop.NotAccepted why) = tt
 stop-answers (stop.Undecided why) = question-answers why
@@ -147,7 +148,7 @@ settles (report.NotGuarded why) outcome h no_read no_write = absurd h
 settles report.NoRounding outcome h no_read no_write = absurd h
 
 -- what holds of how it went on holds of a run that finds no audit
-pub stopped-run : (name out : List ℕ) (e : AuditStop) (old new : ShelfState) (tray : TrayState) → WhereTold old.files (λ fs. IsAuditFileAnswer (shelved_for Audit fs name out) (Err e))
+pub stopped-run : (name out : List ℕ) (e : TableStop) (old new : ShelfState) (tray : TrayState) → WhereTold old.files (λ fs. IsFileAnswer audit_finding (shelved_for Audit fs name out) (Err e))
     → WhereTold old.files (λ fs. ReachedFile (ComesFor Audit fs name out) (finding_of (Err e)) fs new) → HasCause (finding_of (Err e)) old new → HasOnlyLookedOn Audit name old new → IsAuditRunOf name out (stop_report e) old new tray tray
 stopped-run name out e old new tray told come cause shelf = record {
   answers = stop-answers e;
@@ -162,31 +163,31 @@ stopped-run name out e old new tray told come cause shelf = record {
 }
 
 -- the same of a run that went on so, and reports it
-pub stopped-run-of : (name out : List ℕ) (r : Result AuditFile AuditStop) (e : AuditStop) (answer : Report) (old new : ShelfState) (tray : TrayState) → r ≡ Err e → answer ≡ stop_report e → WhereTold old.files (λ fs. IsAuditFileAnswer (shelved_for Audit fs name out) r)
+pub stopped-run-of : (name out : List ℕ) (r : Result AuditFile TableStop) (e : TableStop) (answer : Report) (old new : ShelfState) (tray : TrayState) → r ≡ Err e → answer ≡ stop_report e → WhereTold old.files (λ fs. IsFileAnswer audit_finding (shelved_for Audit fs name out) r)
     → WhereTold old.files (λ fs. ReachedFile (ComesFor Audit fs name out) (finding_of r) fs new) → HasCause (finding_of r) old new → HasOnlyLookedOn Audit name old new → IsAuditRunOf name out answer old new tray tray
 stopped-run-of name out r e answer old new tray is same told come cause shelf =
     subst (λ (a : Report). IsAuditRunOf name out a old new tray tray) (sym same)
-    (stopped-run name out e old new tray (λ fs held. subst (λ (o : Result AuditFile AuditStop). IsAuditFileAnswer (shelved_for Audit fs name out) o) is (told fs held))
-    (λ fs held. subst (λ (o : Result AuditFile AuditStop). ReachedFile (ComesFor Audit fs name out) (finding_of o) fs new) is (come fs held)) (subst (λ (o : Result AuditFile AuditStop). HasCause (finding_of o) old new) is cause) shelf)
+    (stopped-run name out e old new tray (λ fs held. subst (λ (o : Result AuditFile TableStop). IsFileAnswer audit_finding (shelved_for Audit fs name out) o) is (told fs held))
+    (λ fs held. subst (λ (o : Result AuditFile TableStop). ReachedFile (ComesFor Audit fs name out) (finding_of o) fs new) is (come fs held)) (subst (λ (o : Result AuditFile TableStop). HasCause (finding_of o) old new) is cause) shelf)
 
-pub stopped-cause-of : (r : Result AuditFile AuditStop) (e : AuditStop) (answer : Report) (old new : ShelfState) (tray : TrayState) → r ≡ Err e → answer ≡ stop_report e → HasCause (finding_of r) old new → FaultsHaveCauses answer old new tray tray
+pub stopped-cause-of : (r : Result AuditFile TableStop) (e : TableStop) (answer : Report) (old new : ShelfState) (tray : TrayState) → r ≡ Err e → answer ≡ stop_report e → HasCause (finding_of r) old new → FaultsHaveCauses answer old new tray tray
 stopped-cause-of r e answer old new tray is same cause =
-    subst (λ (a : Report). FaultsHaveCauses a old new tray tray) (sym same) (stop-cause e old new tray (subst (λ (o : Result AuditFile AuditStop). HasCause (finding_of o) old new) is cause))
+    subst (λ (a : Report). FaultsHaveCauses a old new tray tray) (sym same) (stop-cause e old new tray (subst (λ (o : Result AuditFile TableStop). HasCause (finding_of o) old new) is cause))
 
 -- ---- an audit was found
 
-put-leaves : (outcome : Result ShelvedTables Fault) (audit : AuditFile) (out : List ℕ) (before after : TrayState) → IsOkAnd outcome (λ one. IsFileOf one audit) → HasPut out audit.bytes before after
+put-leaves : (outcome : Result ShelvedTables Fault) (audit : AuditFile) (out : List ℕ) (before after : TrayState) → IsOkAnd outcome (λ one. IsFileOf audit_finding one audit) → HasPut out audit.bytes before after
     → IsOkAnd outcome (λ shelved. IsAuditPut shelved out audit.primary audit.exposed before after)
 put-leaves (Ok shelved) audit out before after h whole = record { audit = audit; is_file = h; primary_cells = refl; exposed_cells = refl; put = whole }
 put-leaves (Err f) audit out before after h whole = absurd h
 
-part-leaves : (outcome : Result ShelvedTables Fault) (audit : AuditFile) (out : List ℕ) (before after : TrayState) → IsOkAnd outcome (λ one. IsFileOf one audit) → HasPutInPart out audit.bytes before after
+part-leaves : (outcome : Result ShelvedTables Fault) (audit : AuditFile) (out : List ℕ) (before after : TrayState) → IsOkAnd outcome (λ one. IsFileOf audit_finding one audit) → HasPutInPart out audit.bytes before after
     → IsOkAnd outcome (λ shelved. IsAuditPart shelved out before after)
 part-leaves (Ok shelved) audit out before after h part = record { audit = audit; is_file = h; put = part }
 part-leaves (Err f) audit out before after h part = absurd h
 
 -- the file of the audit was put
-pub put-run : (name out : List ℕ) (audit : AuditFile) (old new : ShelfState) (before after : TrayState) → WhereTold old.files (λ fs. IsAuditFileAnswer (shelved_for Audit fs name out) (Ok audit)) → HasPut out audit.bytes before after → HasOnlyLookedOn Audit name old new
+pub put-run : (name out : List ℕ) (audit : AuditFile) (old new : ShelfState) (before after : TrayState) → WhereTold old.files (λ fs. IsFileAnswer audit_finding (shelved_for Audit fs name out) (Ok audit)) → HasPut out audit.bytes before after → HasOnlyLookedOn Audit name old new
     → IsAuditRunOf name out (report.Audited audit.primary audit.exposed) old new before after
 put-run name out audit old new before after told whole shelf = record {
   answers = tt;
@@ -200,7 +201,7 @@ put-run name out audit old new before after told whole shelf = record {
 }
 
 -- it was put in part
-pub part-run : (name out : List ℕ) (audit : AuditFile) (old new : ShelfState) (before after : TrayState) → WhereTold old.files (λ fs. IsAuditFileAnswer (shelved_for Audit fs name out) (Ok audit)) → HasPutInPart out audit.bytes before after → HasOnlyLookedOn Audit name old new
+pub part-run : (name out : List ℕ) (audit : AuditFile) (old new : ShelfState) (before after : TrayState) → WhereTold old.files (λ fs. IsFileAnswer audit_finding (shelved_for Audit fs name out) (Ok audit)) → HasPutInPart out audit.bytes before after → HasOnlyLookedOn Audit name old new
     → IsAuditRunOf name out (report.WriteFault file.Out) old new before after
 part-run name out audit old new before after told part shelf = record {
   answers = tt;

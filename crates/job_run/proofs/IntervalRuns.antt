@@ -15,12 +15,13 @@ use Rattle.job_inputs.specs.declared.file_ref.FileRef.{FileRef}
 use Rattle.job_inputs.specs.declared.file_ref.FileRef.TheVariants as file
 use Rattle.job_inputs.specs.declared.stop.InputStop.{InputStop}
 use Rattle.job_inputs.specs.declared.stop.InputStop.TheVariants as input
-use Rattle.job_intervals.specs.Finding.{IsIntervalFileAnswer, IsFileOf, IsUndecidedFor}
+use Rattle.published_tables.specs.Findings.{IsFileAnswer, IsFileOf, IsUndecidedFor}
+use Rattle.published_tables.specs.IntervalFindings.{interval_finding}
+use Rattle.published_tables.specs.TableStops.{reading_of as finding_of}
 use Rattle.published_tables.specs.TablesOnShelf.{ShelvedTables, shelved_of, IntervalsComeTo}
-use Rattle.job_intervals.specs.Stops.{reading_of as finding_of}
-use Rattle.job_intervals.specs.declared.interval_file.IntervalFile.{IntervalFile}
-use Rattle.job_intervals.specs.declared.stop.IntervalStop.{IntervalStop}
-use Rattle.job_intervals.specs.declared.stop.IntervalStop.TheVariants as stop
+use Rattle.published_tables.specs.declared.interval_file.IntervalFile.{IntervalFile}
+use Rattle.published_tables.specs.declared.table_stop.TableStop.{TableStop}
+use Rattle.published_tables.specs.declared.table_stop.TableStop.TheVariants as stop
 use Rattle.job_run.specs.IntervalRuns.{IsIntervalAnswer, MeetsIntervals, IsIntervalPut, IsIntervalPart, IntervalsLeave, SettlesIntervals, IsIntervalRunOf}
 use Rattle.job_run.specs.Reporting.{inputs_report, question_report, IsQuestionReport}
 use Rattle.job_run.specs.Reports.{FaultsHaveCauses, LeavesAll, reading_of}
@@ -29,7 +30,7 @@ use Rattle.job_run.specs.declared.report.Report.TheVariants as report
 use Rattle.job_run.proofs.Outcomes.{memory-comes, read-comes, inputs-cause, inputs-come, inputs-leave-all, no-fault, no-memory, read-counted}
 
 -- the report of intervals that weren't found
-abbrev pub stop_report : IntervalStop → Report
+abbrev pub stop_report : TableStop → Report
 stop_report (stop.Inputs why) = inputs_report why
 stop_report (stop.NotAccepted why) = report.NotAccepted why
 stop_report (stop.Undecided why) = question_report why
@@ -41,17 +42,17 @@ inputs-meet (input.Refused f) outcome h = h
 inputs-meet (input.ReadFault f) outcome h = tt
 inputs-meet input.Memory outcome h = tt
 
-reported : (shelved : ShelvedTables) (why : AskFault) → IsUndecidedFor shelved why → IsQuestionReport (IsUndecidedFor shelved) (question_report why)
+reported : (shelved : ShelvedTables) (why : AskFault) → IsUndecidedFor interval_finding shelved why → IsQuestionReport (IsUndecidedFor interval_finding shelved) (question_report why)
 reported shelved why h = record { fault = why; is_report = refl; is_stuck = h }
 
-question-meets : (why : AskFault) (outcome : Result ShelvedTables Fault) → IsOkAnd outcome (λ one. IsUndecidedFor one why) → MeetsIntervals (question_report why) outcome
+question-meets : (why : AskFault) (outcome : Result ShelvedTables Fault) → IsOkAnd outcome (λ one. IsUndecidedFor interval_finding one why) → MeetsIntervals (question_report why) outcome
 question-meets (ask.Work walk) (Ok shelved) h = reported shelved (ask.Work walk) h
 question-meets (ask.Wide walk place) (Ok shelved) h = reported shelved (ask.Wide walk place) h
 question-meets (ask.Size question hidden) (Ok shelved) h = reported shelved (ask.Size question hidden) h
 question-meets ask.Memory (Ok shelved) h = tt
 question-meets why (Err f) h = absurd h
 
-stop-meets : (e : IntervalStop) (outcome : Result ShelvedTables Fault) → IsIntervalFileAnswer outcome (Err e) → MeetsIntervals (stop_report e) outcome
+stop-meets : (e : TableStop) (outcome : Result ShelvedTables Fault) → IsFileAnswer interval_finding outcome (Err e) → MeetsIntervals (stop_report e) outcome
 stop-meets (stop.Inputs why) outcome h = inputs-meet why outcome h
 stop-meets (stop.NotAccepted why) outcome h = h
 stop-meets (stop.Undecided why) outcome h = question-meets why outcome h
@@ -67,7 +68,7 @@ question-leaves (ask.Wide walk place) outcome out tray = refl
 question-leaves (ask.Size question hidden) outcome out tray = refl
 question-leaves ask.Memory outcome out tray = refl
 
-stop-leaves : (e : IntervalStop) (outcome : Result ShelvedTables Fault) (out : List ℕ) (tray : TrayState) → IntervalsLeave (stop_report e) outcome out tray tray
+stop-leaves : (e : TableStop) (outcome : Result ShelvedTables Fault) (out : List ℕ) (tray : TrayState) → IntervalsLeave (stop_report e) outcome out tray tray
 stop-leaves (stop.Inputs why) outcome out tray = inputs-leave why outcome out tray
 stop-leaves (stop.NotAccepted why) outcome out tray = refl
 stop-leaves (stop.Undecided why) outcome out tray = question-leaves why outcome out tray
@@ -78,7 +79,7 @@ question-leaves-all (ask.Wide walk place) tray = refl
 question-leaves-all (ask.Size question hidden) tray = refl
 question-leaves-all ask.Memory tray = tt
 
-pub stop-leaves-all : (e : IntervalStop) (tray : TrayState) → LeavesAll (stop_report e) tray tray
+pub stop-leaves-all : (e : TableStop) (tray : TrayState) → LeavesAll (stop_report e) tray tray
 stop-leaves-all (stop.Inputs why) tray = inputs-leave-all why tray
 stop-leaves-all (stop.NotAccepted why) tray = refl
 stop-leaves-all (stop.Undecided why) tray = question-leaves-all why tray
@@ -89,7 +90,7 @@ question-cause (ask.Wide walk place) old new tray = no-fault _ old new tray tray
 question-cause (ask.Size question hidden) old new tray = no-fault _ old new tray tray refl (λ f is. absurd cc)
 question-cause ask.Memory old new tray = no-memory old new tray tray
 
-pub stop-cause : (e : IntervalStop) (old new : ShelfState) (tray : TrayState) → HasCause (finding_of (Err e)) old new → FaultsHaveCauses (stop_report e) old new tray tray
+pub stop-cause : (e : TableStop) (old new : ShelfState) (tray : TrayState) → HasCause (finding_of (Err e)) old new → FaultsHaveCauses (stop_report e) old new tray tray
 stop-cause (stop.Inputs why) old new tray cause = inputs-cause why old new tray cause
 stop-cause (stop.NotAccepted why) old new tray cause = no-fault _ old new tray tray refl (λ f is. absurd cc)
 stop-cause (stop.Undecided why) old new tray cause = question-cause why old new tray
@@ -100,7 +101,7 @@ question-comes (ask.Wide walk place) comes files new = read-comes comes files ne
 question-comes (ask.Size question hidden) comes files new = read-comes comes files new
 question-comes ask.Memory comes files new = memory-comes comes files new
 
-stop-comes : (e : IntervalStop) (comes : FileRef → List ℕ → Type 0) (files : Files) (new : ShelfState) → ReachedFile comes (finding_of (Err e)) files new → ReachedFile comes (reading_of (stop_report e)) files new
+stop-comes : (e : TableStop) (comes : FileRef → List ℕ → Type 0) (files : Files) (new : ShelfState) → ReachedFile comes (finding_of (Err e)) files new → ReachedFile comes (reading_of (stop_report e)) files new
 stop-comes (stop.Inputs why) comes files new come = inputs-come why comes files new come
 stop-comes (stop.NotAccepted why) comes files new come = read-comes comes files new
 stop-comes (stop.Undecided why) comes files new come = question-comes why comes files new
@@ -116,7 +117,7 @@ question-puts-none (ask.Wide walk place) n is = absurd cc
 question-puts-none (ask.Size question hidden) n is = absurd cc
 question-puts-none ask.Memory n is = absurd cc
 
-stop-puts-none : (e : IntervalStop) (n : ℕ) → stop_report e ≢ report.Intervals n
+stop-puts-none : (e : TableStop) (n : ℕ) → stop_report e ≢ report.Intervals n
 stop-puts-none (stop.Inputs why) n is = inputs-put-none why n is
 stop-puts-none (stop.NotAccepted why) n is = absurd cc
 stop-puts-none (stop.Undecided why) n is = question-puts-none why n is
@@ -132,7 +133,7 @@ question-answers (ask.Wide walk place) = tt
 question-answers (ask.Size question hidden) = tt
 question-answers ask.Memory = tt
 
-stop-answers : (e : IntervalStop) → IsIntervalAnswer (stop_report e)
+stop-answers : (e : TableStop) → IsIntervalAnswer (stop_report e)
 stop-answers (stop.Inputs why) = inputs-answer why
 stop-answers (stop.NotAccepted why) = tt
 stop-answers (stop.Undecided why) = question-answers why
@@ -164,7 +165,7 @@ settles report.NoRounding outcome h no_read no_write = absurd h
 settles (report.NotGuarded why) outcome h no_read no_write = absurd h
 
 -- what holds of how it went on holds of a run that finds no intervals
-pub stopped-run : (name out : List ℕ) (e : IntervalStop) (old new : ShelfState) (tray : TrayState) → WhereTold old.files (λ fs. IsIntervalFileAnswer (shelved_of fs name out) (Err e))
+pub stopped-run : (name out : List ℕ) (e : TableStop) (old new : ShelfState) (tray : TrayState) → WhereTold old.files (λ fs. IsFileAnswer interval_finding (shelved_of fs name out) (Err e))
     → WhereTold old.files (λ fs. ReachedFile (IntervalsComeTo fs name out) (finding_of (Err e)) fs new) → HasCause (finding_of (Err e)) old new → HasOnlyLookedOn purpose.Intervals name old new → IsIntervalRunOf name out (stop_report e) old new tray tray
 stopped-run name out e old new tray told come cause shelf = record {
   answers = stop-answers e;
@@ -179,16 +180,16 @@ stopped-run name out e old new tray told come cause shelf = record {
 }
 
 -- the same of a run that went on so, and reports it
-pub stopped-run-of : (name out : List ℕ) (r : Result IntervalFile IntervalStop) (e : IntervalStop) (answer : Report) (old new : ShelfState) (tray : TrayState) → r ≡ Err e → answer ≡ stop_report e → WhereTold old.files (λ fs. IsIntervalFileAnswer (shelved_of fs name out) r)
+pub stopped-run-of : (name out : List ℕ) (r : Result IntervalFile TableStop) (e : TableStop) (answer : Report) (old new : ShelfState) (tray : TrayState) → r ≡ Err e → answer ≡ stop_report e → WhereTold old.files (λ fs. IsFileAnswer interval_finding (shelved_of fs name out) r)
     → WhereTold old.files (λ fs. ReachedFile (IntervalsComeTo fs name out) (finding_of r) fs new) → HasCause (finding_of r) old new → HasOnlyLookedOn purpose.Intervals name old new → IsIntervalRunOf name out answer old new tray tray
 stopped-run-of name out r e answer old new tray is same told come cause shelf =
     subst (λ (a : Report). IsIntervalRunOf name out a old new tray tray) (sym same)
-    (stopped-run name out e old new tray (λ fs held. subst (λ (o : Result IntervalFile IntervalStop). IsIntervalFileAnswer (shelved_of fs name out) o) is (told fs held))
-    (λ fs held. subst (λ (o : Result IntervalFile IntervalStop). ReachedFile (IntervalsComeTo fs name out) (finding_of o) fs new) is (come fs held)) (subst (λ (o : Result IntervalFile IntervalStop). HasCause (finding_of o) old new) is cause) shelf)
+    (stopped-run name out e old new tray (λ fs held. subst (λ (o : Result IntervalFile TableStop). IsFileAnswer interval_finding (shelved_of fs name out) o) is (told fs held))
+    (λ fs held. subst (λ (o : Result IntervalFile TableStop). ReachedFile (IntervalsComeTo fs name out) (finding_of o) fs new) is (come fs held)) (subst (λ (o : Result IntervalFile TableStop). HasCause (finding_of o) old new) is cause) shelf)
 
-pub stopped-cause-of : (r : Result IntervalFile IntervalStop) (e : IntervalStop) (answer : Report) (old new : ShelfState) (tray : TrayState) → r ≡ Err e → answer ≡ stop_report e → HasCause (finding_of r) old new → FaultsHaveCauses answer old new tray tray
+pub stopped-cause-of : (r : Result IntervalFile TableStop) (e : TableStop) (answer : Report) (old new : ShelfState) (tray : TrayState) → r ≡ Err e → answer ≡ stop_report e → HasCause (finding_of r) old new → FaultsHaveCauses answer old new tray tray
 stopped-cause-of r e answer old new tray is same cause =
-    subst (λ (a : Report). FaultsHaveCauses a old new tray tray) (sym same) (stop-cause e old new tray (subst (λ (o : Result IntervalFile IntervalStop). HasCause (finding_of o) old new) is cause))
+    subst (λ (a : Report). FaultsHaveCauses a old new tray tray) (sym same) (stop-cause e old new tray (subst (λ (o : Result IntervalFile TableStop). HasCause (finding_of o) old new) is cause))
 
 -- ---- intervals were found
 
@@ -196,18 +197,18 @@ pub ok-is : (outcome : Result ShelvedTables Fault) (P : ShelvedTables → Type 0
 ok-is (Ok shelved) P h = refl
 ok-is (Err f) P h = absurd h
 
-put-leaves : (outcome : Result ShelvedTables Fault) (intervals : IntervalFile) (out : List ℕ) (before after : TrayState) → IsOkAnd outcome (λ one. IsFileOf one intervals) → HasPut out intervals.bytes before after
+put-leaves : (outcome : Result ShelvedTables Fault) (intervals : IntervalFile) (out : List ℕ) (before after : TrayState) → IsOkAnd outcome (λ one. IsFileOf interval_finding one intervals) → HasPut out intervals.bytes before after
     → IsOkAnd outcome (λ shelved. IsIntervalPut shelved out intervals.cells before after)
 put-leaves (Ok shelved) intervals out before after h whole = record { intervals = intervals; is_file = h; number = refl; put = whole }
 put-leaves (Err f) intervals out before after h whole = absurd h
 
-part-leaves : (outcome : Result ShelvedTables Fault) (intervals : IntervalFile) (out : List ℕ) (before after : TrayState) → IsOkAnd outcome (λ one. IsFileOf one intervals) → HasPutInPart out intervals.bytes before after
+part-leaves : (outcome : Result ShelvedTables Fault) (intervals : IntervalFile) (out : List ℕ) (before after : TrayState) → IsOkAnd outcome (λ one. IsFileOf interval_finding one intervals) → HasPutInPart out intervals.bytes before after
     → IsOkAnd outcome (λ shelved. IsIntervalPart shelved out before after)
 part-leaves (Ok shelved) intervals out before after h part = record { intervals = intervals; is_file = h; put = part }
 part-leaves (Err f) intervals out before after h part = absurd h
 
 -- the file of the intervals was put
-pub put-run : (name out : List ℕ) (intervals : IntervalFile) (old new : ShelfState) (before after : TrayState) → WhereTold old.files (λ fs. IsIntervalFileAnswer (shelved_of fs name out) (Ok intervals)) → HasPut out intervals.bytes before after → HasOnlyLookedOn purpose.Intervals name old new
+pub put-run : (name out : List ℕ) (intervals : IntervalFile) (old new : ShelfState) (before after : TrayState) → WhereTold old.files (λ fs. IsFileAnswer interval_finding (shelved_of fs name out) (Ok intervals)) → HasPut out intervals.bytes before after → HasOnlyLookedOn purpose.Intervals name old new
     → IsIntervalRunOf name out (report.Intervals intervals.cells) old new before after
 put-run name out intervals old new before after told whole shelf = record {
   answers = tt;
@@ -221,7 +222,7 @@ put-run name out intervals old new before after told whole shelf = record {
 }
 
 -- it was put in part
-pub part-run : (name out : List ℕ) (intervals : IntervalFile) (old new : ShelfState) (before after : TrayState) → WhereTold old.files (λ fs. IsIntervalFileAnswer (shelved_of fs name out) (Ok intervals)) → HasPutInPart out intervals.bytes before after → HasOnlyLookedOn purpose.Intervals name old new
+pub part-run : (name out : List ℕ) (intervals : IntervalFile) (old new : ShelfState) (before after : TrayState) → WhereTold old.files (λ fs. IsFileAnswer interval_finding (shelved_of fs name out) (Ok intervals)) → HasPutInPart out intervals.bytes before after → HasOnlyLookedOn purpose.Intervals name old new
     → IsIntervalRunOf name out (report.WriteFault file.Out) old new before after
 part-run name out intervals old new before after told part shelf = record {
   answers = tt;

@@ -9,10 +9,11 @@ use Rattle.job_inputs.specs.Reading.{ReachedFile}
 use Rattle.job_inputs.specs.ClassifiedJobs.{HasOnlyLookedOn}
 use Rattle.job_inputs.specs.declared.faults.Fault.{Fault}
 use Rattle.job_inputs.specs.declared.file_ref.FileRef.TheVariants as file
-use Rattle.job_audit.specs.Finding.{AreRefusedFor, IsFileOf, IsUndecidedFor}
 use Rattle.job_inputs.specs.declared.purpose.Purpose.TheVariants.{Audit}
+use Rattle.published_tables.specs.AuditFindings.{audit_finding}
+use Rattle.published_tables.specs.Findings.{AreRefusedFor, IsFileOf, IsUndecidedFor}
 use Rattle.published_tables.specs.TablesOnShelf.{ShelvedTables, shelved_for, ComesFor}
-use Rattle.job_audit.specs.declared.audit_file.AuditFile.{AuditFile}
+use Rattle.published_tables.specs.declared.audit_file.AuditFile.{AuditFile}
 use Rattle.job_run.specs.Puts.{HasAtMostOnePut}
 use Rattle.job_run.specs.Reporting.{IsQuestionReport}
 use Rattle.job_run.specs.Reports.{reading_of}
@@ -35,9 +36,9 @@ IsAuditAnswer other = ⊥
 -- Want of memory and faults of the shelf say nothing of them.
 abbrev pub MeetsAudit : Report → Result ShelvedTables Fault → Type 0
 MeetsAudit (report.Audited primary exposed) outcome = IsOk outcome
-MeetsAudit (report.NotAccepted why) outcome = IsOkAnd outcome (λ shelved. AreRefusedFor shelved why)
+MeetsAudit (report.NotAccepted why) outcome = IsOkAnd outcome (λ shelved. AreRefusedFor audit_finding shelved why)
 MeetsAudit (report.Undecided why repairs shown against) outcome = IsOkAnd outcome
-    (λ shelved. IsQuestionReport (IsUndecidedFor shelved) (report.Undecided why repairs shown against))
+    (λ shelved. IsQuestionReport (IsUndecidedFor audit_finding shelved) (report.Undecided why repairs shown against))
 MeetsAudit (report.Refused reason) outcome = outcome ≡ Err reason
 MeetsAudit (report.ReadFault file) outcome = Unit {0}
 MeetsAudit (report.WriteFault file) outcome = IsOk outcome
@@ -48,7 +49,7 @@ MeetsAudit other outcome = ⊥
 pub record IsAuditPut (shelved : ShelvedTables) (out : List ℕ) (primary exposed : ℕ)
     (before after : TrayState) : Type 0 where
   pub audit : AuditFile
-  pub is_file : IsFileOf shelved audit
+  pub is_file : IsFileOf audit_finding shelved audit
   pub primary_cells : primary ≡ audit.primary
   pub exposed_cells : exposed ≡ audit.exposed
   pub put : HasPut out audit.bytes before after
@@ -56,7 +57,7 @@ pub record IsAuditPut (shelved : ShelvedTables) (out : List ℕ) (primary expose
 -- the first bytes of the file of the audit stand under its name, put once
 pub record IsAuditPart (shelved : ShelvedTables) (out : List ℕ) (before after : TrayState) : Type 0 where
   pub audit : AuditFile
-  pub is_file : IsFileOf shelved audit
+  pub is_file : IsFileOf audit_finding shelved audit
   pub put : HasPutInPart out audit.bytes before after
 
 -- What the tray holds afterwards: the file of the audit, or after a write fault its first bytes; else all is as it

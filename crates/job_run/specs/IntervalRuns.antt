@@ -9,9 +9,10 @@ use Rattle.job_inputs.specs.ClassifiedJobs.{HasOnlyLookedOn}
 use Rattle.job_inputs.specs.declared.faults.Fault.{Fault}
 use Rattle.job_inputs.specs.declared.purpose.Purpose.TheVariants as purpose
 use Rattle.job_inputs.specs.declared.file_ref.FileRef.TheVariants as file
-use Rattle.job_intervals.specs.Finding.{AreRefusedFor, IsFileOf, IsUndecidedFor}
+use Rattle.published_tables.specs.Findings.{AreRefusedFor, IsFileOf, IsUndecidedFor}
+use Rattle.published_tables.specs.IntervalFindings.{interval_finding}
 use Rattle.published_tables.specs.TablesOnShelf.{ShelvedTables, shelved_of, IntervalsComeTo}
-use Rattle.job_intervals.specs.declared.interval_file.IntervalFile.{IntervalFile}
+use Rattle.published_tables.specs.declared.interval_file.IntervalFile.{IntervalFile}
 use Rattle.job_run.specs.Puts.{HasAtMostOnePut}
 use Rattle.job_run.specs.Reporting.{IsQuestionReport}
 use Rattle.job_run.specs.Reports.{reading_of}
@@ -34,9 +35,9 @@ IsIntervalAnswer other = ⊥
 -- Want of memory and faults of the shelf say nothing of them.
 abbrev pub MeetsIntervals : Report → Result ShelvedTables Fault → Type 0
 MeetsIntervals (report.Intervals cells) outcome = IsOk outcome
-MeetsIntervals (report.NotAccepted why) outcome = IsOkAnd outcome (λ shelved. AreRefusedFor shelved why)
+MeetsIntervals (report.NotAccepted why) outcome = IsOkAnd outcome (λ shelved. AreRefusedFor interval_finding shelved why)
 MeetsIntervals (report.Undecided why repairs shown against) outcome = IsOkAnd outcome
-    (λ shelved. IsQuestionReport (IsUndecidedFor shelved) (report.Undecided why repairs shown against))
+    (λ shelved. IsQuestionReport (IsUndecidedFor interval_finding shelved) (report.Undecided why repairs shown against))
 MeetsIntervals (report.Refused reason) outcome = outcome ≡ Err reason
 MeetsIntervals (report.ReadFault file) outcome = Unit {0}
 MeetsIntervals (report.WriteFault file) outcome = IsOk outcome
@@ -46,14 +47,14 @@ MeetsIntervals other outcome = ⊥
 -- the file of the intervals of so many cells stands under its name, put once
 pub record IsIntervalPut (shelved : ShelvedTables) (out : List ℕ) (cells : ℕ) (before after : TrayState) : Type 0 where
   pub intervals : IntervalFile
-  pub is_file : IsFileOf shelved intervals
+  pub is_file : IsFileOf interval_finding shelved intervals
   pub number : cells ≡ intervals.cells
   pub put : HasPut out intervals.bytes before after
 
 -- the first bytes of the file of the intervals stand under its name, put once
 pub record IsIntervalPart (shelved : ShelvedTables) (out : List ℕ) (before after : TrayState) : Type 0 where
   pub intervals : IntervalFile
-  pub is_file : IsFileOf shelved intervals
+  pub is_file : IsFileOf interval_finding shelved intervals
   pub put : HasPutInPart out intervals.bytes before after
 
 -- What the tray holds afterwards: the file of the intervals, or after a write fault its first bytes; else all is as it

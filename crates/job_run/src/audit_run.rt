@@ -3,9 +3,9 @@ ghost use Rattle.job_run.specs.Reports.{FaultsHaveCauses, LeavesAll};
 
 use crate::report::Report;
 use crate::reporting::question_report;
-use job_audit::{AuditStop, find_audit};
 use job_inputs::FileRef;
 use office_io::{PutFault, Shelf, Tray};
+use published_tables::{TableStop, find_audit};
 use sdc_base::Text;
 use std::alloc::Global;
 
@@ -32,8 +32,8 @@ pub(crate) fn put_audit<S: Shelf, T: Tray>(
             Err(PutFault::Failed) => Report::WriteFault(FileRef::Out),
             Err(PutFault::Memory) => Report::Memory,
         },
-        Err(AuditStop::Inputs(stop)) => Report::from(stop),
-        Err(AuditStop::NotAccepted(why)) => Report::NotAccepted(why),
-        Err(AuditStop::Undecided(fault)) => question_report(alloc, fault),
+        Err(TableStop::Inputs(stop)) => Report::from(stop),
+        Err(TableStop::NotAccepted(why)) => Report::NotAccepted(why),
+        Err(TableStop::Undecided(fault)) => question_report(alloc, fault),
     }
 }

@@ -5,8 +5,8 @@ ghost use Rattle.job_run.specs.Reports.{FaultsHaveCauses, LeavesAll};
 use crate::report::Report;
 use crate::reporting::question_report;
 use job_inputs::FileRef;
-use job_intervals::{IntervalStop, find_intervals};
 use office_io::{PutFault, Shelf, Tray};
+use published_tables::{TableStop, find_intervals};
 use sdc_base::Text;
 use std::alloc::Global;
 
@@ -30,8 +30,8 @@ pub(crate) fn put_intervals<S: Shelf, T: Tray>(
             Err(PutFault::Failed) => Report::WriteFault(FileRef::Out),
             Err(PutFault::Memory) => Report::Memory,
         },
-        Err(IntervalStop::Inputs(stop)) => Report::from(stop),
-        Err(IntervalStop::NotAccepted(why)) => Report::NotAccepted(why),
-        Err(IntervalStop::Undecided(fault)) => question_report(alloc, fault),
+        Err(TableStop::Inputs(stop)) => Report::from(stop),
+        Err(TableStop::NotAccepted(why)) => Report::NotAccepted(why),
+        Err(TableStop::Undecided(fault)) => question_report(alloc, fault),
     }
 }

@@ -2,3 +2,11 @@ pub mod Overwriting
 pub mod Coming
 pub mod Naming
 pub mod Readying
+pub mod Counting
+pub mod Stopping
+pub mod IntervalStopping
+pub mod AuditStopping
+pub mod Answering
+pub mod ReadingAlike
+pub mod OneFile
+pub mod AuditOrFault

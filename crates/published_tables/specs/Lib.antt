@@ -1,2 +1,9 @@
 pub mod OutNames
 pub mod TablesOnShelf
+pub mod HiddenLines
+pub mod ShownValues
+pub mod TableStops
+pub mod Findings
+pub mod IntervalFindings
+pub mod AuditFindings
+pub mod Laws

@@ -1,8 +1,22 @@
-//! The inputs of a job with the tables that stand under the names of its outputs, read for a file that is to be put
-//! beside them.
+//! What a reader of the tables that were put for a job can find out: the inputs of the job are read with its tables, and
+//! the file of the intervals of hidden cells is made, or that of the audit of a rounded release.
 #![tactic(auto)]
 
+mod audit_file;
+mod audit_finding;
+mod hidden_lines;
+mod interval_file;
+mod interval_finding;
+mod laws;
 mod out_name;
 mod shelved;
+mod shown_values;
+mod table_stop;
 
+pub use audit_file::AuditFile;
+pub use audit_finding::find_audit;
+pub use interval_file::IntervalFile;
+pub use interval_finding::find_intervals;
+pub use laws::{tables_are_audited_or_refused, tables_are_read_alike, tables_have_one_file};
 pub use shelved::{ShelvedJob, read_shelved};
+pub use table_stop::TableStop;

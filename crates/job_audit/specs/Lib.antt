@@ -1,4 +1,0 @@
-pub mod ShownValues
-pub mod Stops
-pub mod Finding
-pub mod Laws

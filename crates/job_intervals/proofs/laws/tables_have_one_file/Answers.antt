@@ -1,5 +1,0 @@
-use Rattle.job_intervals.proofs.OneFile.{one_file}
-use Rattle.job_intervals.proofs.laws.tables_have_one_file.Goals as goal
-
-pub returns : goal.returns
-returns c = one_file c.file_is_one.ensures

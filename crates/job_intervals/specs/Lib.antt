@@ -1,4 +1,0 @@
-pub mod ShownTables
-pub mod Stops
-pub mod Finding
-pub mod Laws
