@@ -16,7 +16,7 @@ use Rattle.job_inputs.specs.declared.stop.InputStop.{InputStop}
 use Rattle.job_inputs.specs.declared.stop.InputStop.TheVariants as input
 use Rattle.job_inputs.specs.declared.purpose.Purpose.TheVariants.{Audit}
 use Rattle.published_tables.specs.AuditFindings.{audit_finding}
-use Rattle.published_tables.specs.Findings.{IsFileAnswer, IsFileOf, IsUndecidedFor}
+use Rattle.published_tables.specs.Findings.{IsFindingAnswer, IsFileOf, IsUndecidedFor}
 use Rattle.published_tables.specs.TableStops.{reading_of as finding_of}
 use Rattle.published_tables.specs.TablesOnShelf.{ShelvedTables, shelved_for, ComesFor}
 use Rattle.published_tables.specs.declared.audit_file.AuditFile.{AuditFile}
@@ -53,7 +53,7 @@ question-meets (ask.Size question hidden) (Ok shelved) h = reported shelved (ask
 question-meets ask.Memory (Ok shelved) h = tt
 question-meets why (Err f) h = absurd h
 
-stop-meets : (e : TableStop) (outcome : Result ShelvedTables Fault) → IsFileAnswer audit_finding outcome (Err e) → MeetsAudit (stop_report e) outcome
+stop-meets : (e : TableStop) (outcome : Result ShelvedTables Fault) → IsFindingAnswer audit_finding outcome (Err e) → MeetsAudit (stop_report e) outcome
 stop-meets (stop.Inputs why) outcome h = inputs-meet why outcome h
 stop-meets (stop.NotAccepted why) outcome h = h
 stop-meets (stop.Undecided why) outcome h = question-meets why outcome h
@@ -79,12 +79,12 @@ stop-leaves-all (stop.Inputs why) tray = inputs-leave-all why tray
 stop-leaves-all (stop.NotAccepted why) tray = refl
 stop-leaves-all (stop.Undecided why) tray = question-leaves-all why tray
 
-pub stop-cause : (e : TableStop) (old new : ShelfState) (tray : TrayState) → HasCause (finding_of (Err e)) old new → FaultsHaveCauses (stop_report e) old new tray tray
+pub stop-cause : (e : TableStop) (old new : ShelfState) (tray : TrayState) → HasCause (finding_of {File = AuditFile} (Err e)) old new → FaultsHaveCauses (stop_report e) old new tray tray
 stop-cause (stop.Inputs why) old new tray cause = inputs-cause why old new tray cause
 stop-cause (stop.NotAccepted why) old new tray cause = no-fault _ old new tray tray refl (λ f is. absurd cc)
 stop-cause (stop.Undecided why) old new tray cause = question-cause why old new tray
 
-stop-comes : (e : TableStop) (comes : FileRef → List ℕ → Type 0) (files : Files) (new : ShelfState) → ReachedFile comes (finding_of (Err e)) files new → ReachedFile comes (reading_of (stop_report e)) files new
+stop-comes : (e : TableStop) (comes : FileRef → List ℕ → Type 0) (files : Files) (new : ShelfState) → ReachedFile comes (finding_of {File = AuditFile} (Err e)) files new → ReachedFile comes (reading_of (stop_report e)) files new
 stop-comes (stop.Inputs why) comes files new come = inputs-come why comes files new come
 stop-comes (stop.NotAccepted why) comes files new come = read-comes comes files new
 stop-comes (stop.Undecided why) comes files new come = question-comes why comes files new
@@ -148,8 +148,8 @@ settles (report.NotGuarded why) outcome h no_read no_write = absurd h
 settles report.NoRounding outcome h no_read no_write = absurd h
 
 -- what holds of how it went on holds of a run that finds no audit
-pub stopped-run : (name out : List ℕ) (e : TableStop) (old new : ShelfState) (tray : TrayState) → WhereTold old.files (λ fs. IsFileAnswer audit_finding (shelved_for Audit fs name out) (Err e))
-    → WhereTold old.files (λ fs. ReachedFile (ComesFor Audit fs name out) (finding_of (Err e)) fs new) → HasCause (finding_of (Err e)) old new → HasOnlyLookedOn Audit name old new → IsAuditRunOf name out (stop_report e) old new tray tray
+pub stopped-run : (name out : List ℕ) (e : TableStop) (old new : ShelfState) (tray : TrayState) → WhereTold old.files (λ fs. IsFindingAnswer audit_finding (shelved_for Audit fs name out) (Err e))
+    → WhereTold old.files (λ fs. ReachedFile (ComesFor Audit fs name out) (finding_of {File = AuditFile} (Err e)) fs new) → HasCause (finding_of {File = AuditFile} (Err e)) old new → HasOnlyLookedOn Audit name old new → IsAuditRunOf name out (stop_report e) old new tray tray
 stopped-run name out e old new tray told come cause shelf = record {
   answers = stop-answers e;
   told = λ fs held. stop-meets e (shelved_for Audit fs name out) (told fs held);
@@ -163,11 +163,11 @@ stopped-run name out e old new tray told come cause shelf = record {
 }
 
 -- the same of a run that went on so, and reports it
-pub stopped-run-of : (name out : List ℕ) (r : Result AuditFile TableStop) (e : TableStop) (answer : Report) (old new : ShelfState) (tray : TrayState) → r ≡ Err e → answer ≡ stop_report e → WhereTold old.files (λ fs. IsFileAnswer audit_finding (shelved_for Audit fs name out) r)
+pub stopped-run-of : (name out : List ℕ) (r : Result AuditFile TableStop) (e : TableStop) (answer : Report) (old new : ShelfState) (tray : TrayState) → r ≡ Err e → answer ≡ stop_report e → WhereTold old.files (λ fs. IsFindingAnswer audit_finding (shelved_for Audit fs name out) r)
     → WhereTold old.files (λ fs. ReachedFile (ComesFor Audit fs name out) (finding_of r) fs new) → HasCause (finding_of r) old new → HasOnlyLookedOn Audit name old new → IsAuditRunOf name out answer old new tray tray
 stopped-run-of name out r e answer old new tray is same told come cause shelf =
     subst (λ (a : Report). IsAuditRunOf name out a old new tray tray) (sym same)
-    (stopped-run name out e old new tray (λ fs held. subst (λ (o : Result AuditFile TableStop). IsFileAnswer audit_finding (shelved_for Audit fs name out) o) is (told fs held))
+    (stopped-run name out e old new tray (λ fs held. subst (λ (o : Result AuditFile TableStop). IsFindingAnswer audit_finding (shelved_for Audit fs name out) o) is (told fs held))
     (λ fs held. subst (λ (o : Result AuditFile TableStop). ReachedFile (ComesFor Audit fs name out) (finding_of o) fs new) is (come fs held)) (subst (λ (o : Result AuditFile TableStop). HasCause (finding_of o) old new) is cause) shelf)
 
 pub stopped-cause-of : (r : Result AuditFile TableStop) (e : TableStop) (answer : Report) (old new : ShelfState) (tray : TrayState) → r ≡ Err e → answer ≡ stop_report e → HasCause (finding_of r) old new → FaultsHaveCauses answer old new tray tray
@@ -187,7 +187,7 @@ part-leaves (Ok shelved) audit out before after h part = record { audit = audit;
 part-leaves (Err f) audit out before after h part = absurd h
 
 -- the file of the audit was put
-pub put-run : (name out : List ℕ) (audit : AuditFile) (old new : ShelfState) (before after : TrayState) → WhereTold old.files (λ fs. IsFileAnswer audit_finding (shelved_for Audit fs name out) (Ok audit)) → HasPut out audit.bytes before after → HasOnlyLookedOn Audit name old new
+pub put-run : (name out : List ℕ) (audit : AuditFile) (old new : ShelfState) (before after : TrayState) → WhereTold old.files (λ fs. IsFindingAnswer audit_finding (shelved_for Audit fs name out) (Ok audit)) → HasPut out audit.bytes before after → HasOnlyLookedOn Audit name old new
     → IsAuditRunOf name out (report.Audited audit.primary audit.exposed) old new before after
 put-run name out audit old new before after told whole shelf = record {
   answers = tt;
@@ -201,7 +201,7 @@ put-run name out audit old new before after told whole shelf = record {
 }
 
 -- it was put in part
-pub part-run : (name out : List ℕ) (audit : AuditFile) (old new : ShelfState) (before after : TrayState) → WhereTold old.files (λ fs. IsFileAnswer audit_finding (shelved_for Audit fs name out) (Ok audit)) → HasPutInPart out audit.bytes before after → HasOnlyLookedOn Audit name old new
+pub part-run : (name out : List ℕ) (audit : AuditFile) (old new : ShelfState) (before after : TrayState) → WhereTold old.files (λ fs. IsFindingAnswer audit_finding (shelved_for Audit fs name out) (Ok audit)) → HasPutInPart out audit.bytes before after → HasOnlyLookedOn Audit name old new
     → IsAuditRunOf name out (report.WriteFault file.Out) old new before after
 part-run name out audit old new before after told part shelf = record {
   answers = tt;

@@ -15,7 +15,7 @@ use Rattle.job_inputs.specs.declared.file_ref.FileRef.{FileRef}
 use Rattle.job_inputs.specs.declared.file_ref.FileRef.TheVariants as file
 use Rattle.job_inputs.specs.declared.stop.InputStop.{InputStop}
 use Rattle.job_inputs.specs.declared.stop.InputStop.TheVariants as input
-use Rattle.published_tables.specs.Findings.{IsFileAnswer, IsFileOf, IsUndecidedFor}
+use Rattle.published_tables.specs.Findings.{IsFindingAnswer, IsFileOf, IsUndecidedFor}
 use Rattle.published_tables.specs.IntervalFindings.{interval_finding}
 use Rattle.published_tables.specs.TableStops.{reading_of as finding_of}
 use Rattle.published_tables.specs.TablesOnShelf.{ShelvedTables, shelved_of, IntervalsComeTo}
@@ -52,7 +52,7 @@ question-meets (ask.Size question hidden) (Ok shelved) h = reported shelved (ask
 question-meets ask.Memory (Ok shelved) h = tt
 question-meets why (Err f) h = absurd h
 
-stop-meets : (e : TableStop) (outcome : Result ShelvedTables Fault) → IsFileAnswer interval_finding outcome (Err e) → MeetsIntervals (stop_report e) outcome
+stop-meets : (e : TableStop) (outcome : Result ShelvedTables Fault) → IsFindingAnswer interval_finding outcome (Err e) → MeetsIntervals (stop_report e) outcome
 stop-meets (stop.Inputs why) outcome h = inputs-meet why outcome h
 stop-meets (stop.NotAccepted why) outcome h = h
 stop-meets (stop.Undecided why) outcome h = question-meets why outcome h
@@ -90,7 +90,7 @@ question-cause (ask.Wide walk place) old new tray = no-fault _ old new tray tray
 question-cause (ask.Size question hidden) old new tray = no-fault _ old new tray tray refl (λ f is. absurd cc)
 question-cause ask.Memory old new tray = no-memory old new tray tray
 
-pub stop-cause : (e : TableStop) (old new : ShelfState) (tray : TrayState) → HasCause (finding_of (Err e)) old new → FaultsHaveCauses (stop_report e) old new tray tray
+pub stop-cause : (e : TableStop) (old new : ShelfState) (tray : TrayState) → HasCause (finding_of {File = IntervalFile} (Err e)) old new → FaultsHaveCauses (stop_report e) old new tray tray
 stop-cause (stop.Inputs why) old new tray cause = inputs-cause why old new tray cause
 stop-cause (stop.NotAccepted why) old new tray cause = no-fault _ old new tray tray refl (λ f is. absurd cc)
 stop-cause (stop.Undecided why) old new tray cause = question-cause why old new tray
@@ -101,7 +101,7 @@ question-comes (ask.Wide walk place) comes files new = read-comes comes files ne
 question-comes (ask.Size question hidden) comes files new = read-comes comes files new
 question-comes ask.Memory comes files new = memory-comes comes files new
 
-stop-comes : (e : TableStop) (comes : FileRef → List ℕ → Type 0) (files : Files) (new : ShelfState) → ReachedFile comes (finding_of (Err e)) files new → ReachedFile comes (reading_of (stop_report e)) files new
+stop-comes : (e : TableStop) (comes : FileRef → List ℕ → Type 0) (files : Files) (new : ShelfState) → ReachedFile comes (finding_of {File = IntervalFile} (Err e)) files new → ReachedFile comes (reading_of (stop_report e)) files new
 stop-comes (stop.Inputs why) comes files new come = inputs-come why comes files new come
 stop-comes (stop.NotAccepted why) comes files new come = read-comes comes files new
 stop-comes (stop.Undecided why) comes files new come = question-comes why comes files new
@@ -165,8 +165,8 @@ settles report.NoRounding outcome h no_read no_write = absurd h
 settles (report.NotGuarded why) outcome h no_read no_write = absurd h
 
 -- what holds of how it went on holds of a run that finds no intervals
-pub stopped-run : (name out : List ℕ) (e : TableStop) (old new : ShelfState) (tray : TrayState) → WhereTold old.files (λ fs. IsFileAnswer interval_finding (shelved_of fs name out) (Err e))
-    → WhereTold old.files (λ fs. ReachedFile (IntervalsComeTo fs name out) (finding_of (Err e)) fs new) → HasCause (finding_of (Err e)) old new → HasOnlyLookedOn purpose.Intervals name old new → IsIntervalRunOf name out (stop_report e) old new tray tray
+pub stopped-run : (name out : List ℕ) (e : TableStop) (old new : ShelfState) (tray : TrayState) → WhereTold old.files (λ fs. IsFindingAnswer interval_finding (shelved_of fs name out) (Err e))
+    → WhereTold old.files (λ fs. ReachedFile (IntervalsComeTo fs name out) (finding_of {File = IntervalFile} (Err e)) fs new) → HasCause (finding_of {File = IntervalFile} (Err e)) old new → HasOnlyLookedOn purpose.Intervals name old new → IsIntervalRunOf name out (stop_report e) old new tray tray
 stopped-run name out e old new tray told come cause shelf = record {
   answers = stop-answers e;
   told = λ fs held. stop-meets e (shelved_of fs name out) (told fs held);
@@ -180,11 +180,11 @@ stopped-run name out e old new tray told come cause shelf = record {
 }
 
 -- the same of a run that went on so, and reports it
-pub stopped-run-of : (name out : List ℕ) (r : Result IntervalFile TableStop) (e : TableStop) (answer : Report) (old new : ShelfState) (tray : TrayState) → r ≡ Err e → answer ≡ stop_report e → WhereTold old.files (λ fs. IsFileAnswer interval_finding (shelved_of fs name out) r)
+pub stopped-run-of : (name out : List ℕ) (r : Result IntervalFile TableStop) (e : TableStop) (answer : Report) (old new : ShelfState) (tray : TrayState) → r ≡ Err e → answer ≡ stop_report e → WhereTold old.files (λ fs. IsFindingAnswer interval_finding (shelved_of fs name out) r)
     → WhereTold old.files (λ fs. ReachedFile (IntervalsComeTo fs name out) (finding_of r) fs new) → HasCause (finding_of r) old new → HasOnlyLookedOn purpose.Intervals name old new → IsIntervalRunOf name out answer old new tray tray
 stopped-run-of name out r e answer old new tray is same told come cause shelf =
     subst (λ (a : Report). IsIntervalRunOf name out a old new tray tray) (sym same)
-    (stopped-run name out e old new tray (λ fs held. subst (λ (o : Result IntervalFile TableStop). IsFileAnswer interval_finding (shelved_of fs name out) o) is (told fs held))
+    (stopped-run name out e old new tray (λ fs held. subst (λ (o : Result IntervalFile TableStop). IsFindingAnswer interval_finding (shelved_of fs name out) o) is (told fs held))
     (λ fs held. subst (λ (o : Result IntervalFile TableStop). ReachedFile (IntervalsComeTo fs name out) (finding_of o) fs new) is (come fs held)) (subst (λ (o : Result IntervalFile TableStop). HasCause (finding_of o) old new) is cause) shelf)
 
 pub stopped-cause-of : (r : Result IntervalFile TableStop) (e : TableStop) (answer : Report) (old new : ShelfState) (tray : TrayState) → r ≡ Err e → answer ≡ stop_report e → HasCause (finding_of r) old new → FaultsHaveCauses answer old new tray tray
@@ -208,7 +208,7 @@ part-leaves (Ok shelved) intervals out before after h part = record { intervals 
 part-leaves (Err f) intervals out before after h part = absurd h
 
 -- the file of the intervals was put
-pub put-run : (name out : List ℕ) (intervals : IntervalFile) (old new : ShelfState) (before after : TrayState) → WhereTold old.files (λ fs. IsFileAnswer interval_finding (shelved_of fs name out) (Ok intervals)) → HasPut out intervals.bytes before after → HasOnlyLookedOn purpose.Intervals name old new
+pub put-run : (name out : List ℕ) (intervals : IntervalFile) (old new : ShelfState) (before after : TrayState) → WhereTold old.files (λ fs. IsFindingAnswer interval_finding (shelved_of fs name out) (Ok intervals)) → HasPut out intervals.bytes before after → HasOnlyLookedOn purpose.Intervals name old new
     → IsIntervalRunOf name out (report.Intervals intervals.cells) old new before after
 put-run name out intervals old new before after told whole shelf = record {
   answers = tt;
@@ -222,7 +222,7 @@ put-run name out intervals old new before after told whole shelf = record {
 }
 
 -- it was put in part
-pub part-run : (name out : List ℕ) (intervals : IntervalFile) (old new : ShelfState) (before after : TrayState) → WhereTold old.files (λ fs. IsFileAnswer interval_finding (shelved_of fs name out) (Ok intervals)) → HasPutInPart out intervals.bytes before after → HasOnlyLookedOn purpose.Intervals name old new
+pub part-run : (name out : List ℕ) (intervals : IntervalFile) (old new : ShelfState) (before after : TrayState) → WhereTold old.files (λ fs. IsFindingAnswer interval_finding (shelved_of fs name out) (Ok intervals)) → HasPutInPart out intervals.bytes before after → HasOnlyLookedOn purpose.Intervals name old new
     → IsIntervalRunOf name out (report.WriteFault file.Out) old new before after
 part-run name out intervals old new before after told part shelf = record {
   answers = tt;

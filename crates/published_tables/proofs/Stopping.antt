@@ -12,7 +12,7 @@ use Rattle.job_inputs.specs.declared.faults.Fault.{Fault}
 use Rattle.job_inputs.specs.declared.file_ref.FileRef.{FileRef}
 use Rattle.job_inputs.specs.declared.settled.ClassifiedJob.{ClassifiedJob}
 use Rattle.job_inputs.specs.declared.stop.InputStop.TheVariants as input
-use Rattle.published_tables.specs.Findings.{Finding, ComesFrom, IsFileAnswer, IsFound}
+use Rattle.published_tables.specs.Findings.{Finding, ComesFrom, IsFindingAnswer, IsFindingOfSome}
 use Rattle.published_tables.specs.TableStops.{memory_stop, check_stop, reading_of}
 use Rattle.published_tables.specs.TablesOnShelf.{ShelvedTables}
 use Rattle.published_tables.specs.declared.table_stop.TableStop.{TableStop}
@@ -59,7 +59,7 @@ table_is check.Memory = inl refl
 
 -- so it stops the run for the first fault of the tables
 pub table_stops : {A X F : Type 0} (finding : Finding X F) (meant : Result A CheckFault) (shelved : Result ShelvedTables Fault) (e : CheckFault) → Fails (check_fault_of e) meant
-    → ((why : CheckFault) → meant ≡ Err why → IsFileAnswer finding shelved (Err (stop.NotAccepted why))) → IsFileAnswer finding shelved (Err (check_stop e))
+    → ((why : CheckFault) → meant ≡ Err why → IsFindingAnswer finding shelved (Err (stop.NotAccepted why))) → IsFindingAnswer finding shelved (Err (check_stop e))
 table_stops {A} finding meant shelved e fails make = elim (table_is e) [
   | inl memory ↦ rw memory tt
   | inr own ↦ rw (own.0) (make e (subst (λ (o : Option CheckFault). Fails o meant) own.1 fails))
@@ -67,7 +67,7 @@ table_stops {A} finding meant shelved e fails make = elim (table_is e) [
 
 -- and is found so over any shelf
 pub table_found : {A X F : Type 0} (finding : Finding X F) (meant : Result A CheckFault) (e : CheckFault) → Fails (check_fault_of e) meant
-    → ((why : CheckFault) → meant ≡ Err why → (shelved : ShelvedTables) × AreSound shelved.settled.inputs × IsFileAnswer finding (Ok shelved) (Err (stop.NotAccepted why))) → IsFound finding (Err (check_stop e))
+    → ((why : CheckFault) → meant ≡ Err why → (shelved : ShelvedTables) × AreSound shelved.settled.inputs × IsFindingAnswer finding (Ok shelved) (Err (stop.NotAccepted why))) → IsFindingOfSome finding (Err (check_stop e))
 table_found {A} finding meant e fails make = elim (table_is e) [
   | inl memory ↦ rw memory tt
   | inr own ↦ rw (own.0) (make e (subst (λ (o : Option CheckFault). Fails o meant) own.1 fails))

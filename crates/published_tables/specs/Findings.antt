@@ -63,16 +63,16 @@ IsUndecidedFor finding shelved why = IsShownBy finding.read shelved (λ job show
 -- What the run answers, by what the told files come to: the first fault of the inputs, of the name of the file to be
 -- put and of the tables' files; or else the first fault of the tables, the first question without an answer, or the
 -- file. Faults of the shelf and want of memory say nothing of the files.
-abbrev pub IsFileAnswer : {Shown File : Type 0} → Finding Shown File → Result ShelvedTables Fault
+abbrev pub IsFindingAnswer : {Shown File : Type 0} → Finding Shown File → Result ShelvedTables Fault
     → Result File TableStop → Type 0
-IsFileAnswer finding shelved (Ok file) = IsOkAnd shelved (λ one. IsFileOf finding one file)
-IsFileAnswer finding shelved (Err (stop.Inputs why)) = Fails (stopped_for why) shelved
-IsFileAnswer finding shelved (Err (stop.NotAccepted why)) = IsOkAnd shelved (λ one. AreRefusedFor finding one why)
-IsFileAnswer finding shelved (Err (stop.Undecided why)) = IsOkAnd shelved (λ one. IsUndecidedFor finding one why)
+IsFindingAnswer finding shelved (Ok file) = IsOkAnd shelved (λ one. IsFileOf finding one file)
+IsFindingAnswer finding shelved (Err (stop.Inputs why)) = Fails (stopped_for why) shelved
+IsFindingAnswer finding shelved (Err (stop.NotAccepted why)) = IsOkAnd shelved (λ one. AreRefusedFor finding one why)
+IsFindingAnswer finding shelved (Err (stop.Undecided why)) = IsOkAnd shelved (λ one. IsUndecidedFor finding one why)
 
 -- Whatever the shelf tells: an answer that doesn't stop the inputs is one that some inputs within their limits come to,
 -- with some tables.
-abbrev pub IsFound : {Shown File : Type 0} → Finding Shown File → Result File TableStop → Type 0
-IsFound finding (Err (stop.Inputs why)) = Unit {0}
-IsFound finding other =
-    (shelved : ShelvedTables) × AreSound shelved.settled.inputs × IsFileAnswer finding (Ok shelved) other
+abbrev pub IsFindingOfSome : {Shown File : Type 0} → Finding Shown File → Result File TableStop → Type 0
+IsFindingOfSome finding (Err (stop.Inputs why)) = Unit {0}
+IsFindingOfSome finding other =
+    (shelved : ShelvedTables) × AreSound shelved.settled.inputs × IsFindingAnswer finding (Ok shelved) other

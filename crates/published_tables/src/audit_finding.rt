@@ -4,7 +4,7 @@ ghost use Rattle.job_inputs.specs.Reading.{HasCause, ReachedFile};
 ghost use Rattle.job_inputs.specs.ClassifiedJobs.{HasOnlyLookedOn};
 ghost use Rattle.job_inputs.specs.declared.purpose.Purpose.TheVariants.{Audit};
 ghost use Rattle.published_tables.specs.AuditFindings.{audit_finding};
-ghost use Rattle.published_tables.specs.Findings.{ComesFrom, IsFileAnswer, IsFound};
+ghost use Rattle.published_tables.specs.Findings.{ComesFrom, IsFindingAnswer, IsFindingOfSome};
 ghost use Rattle.published_tables.specs.TableStops.{reading_of};
 ghost use Rattle.published_tables.specs.TablesOnShelf.{shelved_for, ComesFor, IsReadyShelved};
 
@@ -49,10 +49,10 @@ pub fn find_audit<S: Shelf>(
     // The answer is what the told files come to: the first fault of inputs, name and tables' files, or else what the
     // tables come to.
     ensures told { WhereTold (S.state shelf.old).files
-        (λ fs. IsFileAnswer audit_finding (shelved_for Audit fs name.now out.now) result) }
+        (λ fs. IsFindingAnswer audit_finding (shelved_for Audit fs name.now out.now) result) }
 
     // Over a shelf that tells nothing too, the answer is that of some inputs within their limits, with some tables.
-    ensures found { IsFound audit_finding result }
+    ensures found { IsFindingOfSome audit_finding result }
 
     // Where the shelf fails at a file, the run came to it and nothing before it has a fault.
     ensures came_to { WhereTold (S.state shelf.old).files
