@@ -10,7 +10,7 @@ ghost use Rattle.cost_rule.specs.Costs.{AreCosted, IsTold};
 ghost use Rattle.linked_tables.specs.BookCells.{cells as cells_in};
 ghost use Rattle.sdc_base.specs.Signs.{AreSigns};
 ghost use Rattle.contributor_protection.specs.Guards.{case_of, prices_in, IsCertified, IsGuardOf, HasExtraText};
-ghost use Rattle.contributor_protection.specs.GuardParts.{IsMadeOf, IsStopOf};
+ghost use Rattle.contributor_protection.specs.GuardParts.{FitTogether, IsMadeOf, IsStopOf};
 ghost use Rattle.contributor_protection.specs.WholeOutcomes.{IsWholeOutcome};
 
 use crate::shown_again::shown_again;
@@ -140,13 +140,7 @@ fn answer_by<F: TellsCosts + Drop>(
     limit: u64,
 ) -> Result<Guarded, GuardStop>
     requires told_costs { IsTold F.may_ask F.may_say f cost }
-    requires one_each { length protected.now.cells.now ≡ protected.now.system.now.cells }
-    requires marks { length protected.now.cells.now ≡ length protected.now.book.now.marks }
-    requires costed { All (λ mark. AreCosted mark.facts) protected.now.book.now.marks }
-    requires levels { All HasLevelsInRange protected.now.cells.now }
-    requires of_system { protected.now.hidden_set.now.system ≡ protected.now.system.now }
-    requires of_cells { protected.now.hidden_set.now.cells ≡ protected.now.cells.now }
-    requires each_flag { length protected.now.hidden_set.now.hidden.flags ≡ length protected.now.cells.now }
+    requires together { FitTogether protected.now }
     requires limit { 1 ≤ limit }
     ensures guarded { IfOk result (IsGuarded (case_of protected.now) alone.now
         protected.now.hidden_set.now.hidden.flags protected.now.hidden_set.now.worlds) }

@@ -9,6 +9,19 @@ use Rattle.contributor_protection.proofs.Concluding.{answer-comes, answer-whole,
 use Rattle.contributor_protection.proofs.Saying.{can-be-said}
 use Rattle.contributor_protection.proofs.guarding.guard_cells.Goals as goal
 
+pub answer_by-outcome-requires-clause-together : goal.answer_by-outcome-requires-clause-together
+answer_by-outcome-requires-clause-together c =
+    let own = c.requires.certified.protects.verdict.0 in
+    record {
+      one_each = c.requires.one_each;
+      marks = c.requires.marks;
+      costed = c.requires.costed;
+      levels = c.requires.levels;
+      of_system = own.of_system;
+      of_cells = own.of_cells;
+      each_flag = own.each_flag;
+    }
+
 pub returns-in-Ok-clause-outcome : goal.returns-in-Ok-clause-outcome
 returns-in-Ok-clause-outcome c =
     let all = protected_case c.args.protected.now.system.now c.args.protected.now.cells.now in
