@@ -1,6 +1,5 @@
 -- What a check answers of the files of a job (own).
 use Rattle.std.specs.Prelude.{◌≡◌, ◌≢◌, ℕ, true, false, List, Option, None, Some, Result, Ok, Err, IsOkAnd}
-use Rattle.std.specs.Option.{ForSome}
 use Rattle.sdc_base.specs.Answers.{Fails}
 use Rattle.attackers.specs.declared.faults.ExtraFault.{ExtraFault}
 use Rattle.attackers.specs.declared.faults.ExtraFault.TheVariants as extra_fault
@@ -16,10 +15,8 @@ use Rattle.job_inputs.specs.Reading.{stopped_for}
 use Rattle.job_inputs.specs.declared.faults.Fault.{Fault}
 use Rattle.job_inputs.specs.declared.stop.InputStop.TheVariants as input
 use Rattle.job_check.specs.Cases.{IsCaseOf}
-use Rattle.job_check.specs.GuardedReleases.{guarded_fault, flaw_of, AreSolesOf, IsRightGuarding}
+use Rattle.job_check.specs.GuardedReleases.{guarded_fault, AreSolesOf, IsForFault, IsRightGuarding}
 use Rattle.job_check.specs.ReleaseFiles.{ReleasedFiles}
-use Rattle.job_check.specs.declared.flaw.Flaw.{Flaw}
-use Rattle.job_check.specs.declared.flaw.Flaw.TheVariants as flaw
 use Rattle.job_check.specs.declared.stop.CheckStop.{CheckStop}
 use Rattle.job_check.specs.declared.stop.CheckStop.TheVariants as stop
 
@@ -56,23 +53,23 @@ pub record IsAcceptedWithExtra (released : ReleasedFiles) (extra : Extra) : Type
   pub shows : IsRightGuarding case soles released.tables released.certificate extra
 
 -- The release with its extra cells has this fault, the first one; it isn't want of memory.
-pub record IsNotAcceptedWithExtra (released : ReleasedFiles) (extra : Extra) (why : Flaw) : Type 0 where
+pub record IsNotAcceptedWithExtra (released : ReleasedFiles) (extra : Extra) (why : CheckStop) : Type 0 where
   pub case : Case
   pub is_case : IsCaseOf released.settled case
   pub fits : IsCase case released.tables
   pub soles : List (Option ℕ)
   pub are_soles : AreSolesOf case released.settled.inputs.records.rows soles
   pub first : guarded_fault case soles released.tables released.certificate extra ≡ Err why
-  pub not_memory : flaw_of why ≡ Some why
+  pub not_memory : IsForFault why
 
 -- the release is accepted, with the extra cells of its contributors' file where its job names one
 abbrev pub IsAcceptedWith : Option Extra → ReleasedFiles → Type 0
 IsAcceptedWith None released = IsAcceptedRelease released
 IsAcceptedWith (Some extra) released = IsAcceptedWithExtra released extra
 
--- the release has this fault, with those extra cells
-abbrev pub IsNotAcceptedWith : Option Extra → ReleasedFiles → Flaw → Type 0
-IsNotAcceptedWith None released (flaw.NotAccepted why) = IsNotAccepted released why
+-- the release has this fault, with those extra cells; what stops the inputs is no fault of a release
+abbrev pub IsNotAcceptedWith : Option Extra → ReleasedFiles → CheckStop → Type 0
+IsNotAcceptedWith None released (stop.NotAccepted why) = IsNotAccepted released why
 IsNotAcceptedWith None released other = ⊥
 IsNotAcceptedWith (Some extra) released why = IsNotAcceptedWithExtra released extra why
 
@@ -81,33 +78,28 @@ abbrev pub IsRightRelease : ReleasedFiles → Type 0
 IsRightRelease released = IsAcceptedWith released.extra released
 
 -- the release has this fault
-abbrev pub IsFaultyRelease : Flaw → ReleasedFiles → Type 0
+abbrev pub IsFaultyRelease : CheckStop → ReleasedFiles → Type 0
 IsFaultyRelease why released = IsNotAcceptedWith released.extra released why
 
--- the answer to whether a release is accepted, want of memory aside
-abbrev pub IsJudgementOf : ReleasedFiles → Result (Unit {0}) Flaw → Type 0
+-- the answer to whether a release is accepted, or want of memory
+abbrev pub IsJudgementOf : ReleasedFiles → Result (Unit {0}) CheckStop → Type 0
 IsJudgementOf released (Ok fine) = IsRightRelease released
-IsJudgementOf released (Err why) = ForSome (flaw_of why) (λ named. IsFaultyRelease named released)
+IsJudgementOf released (Err (stop.Inputs why)) = why ≡ input.Memory
+IsJudgementOf released (Err why) = IsFaultyRelease why released
 
--- a fault as a stop of the check; want of memory is one of its inputs
+-- a fault of a certificate with its tables as a stop of the check; want of memory is one of the inputs
 abbrev pub stop_for : CheckFault → CheckStop
 stop_for fault.Memory = stop.Inputs input.Memory
 stop_for other = stop.NotAccepted other
 
--- a fault of extra cells as a stop of the check
+-- a fault of extra cells as a stop of the check; want of memory is one of the inputs
 abbrev pub guard_stop_for : ExtraFault → CheckStop
 guard_stop_for extra_fault.Memory = stop.Inputs input.Memory
 guard_stop_for other = stop.NotGuarded other
-
--- what is wrong with a release as a stop of the check
-abbrev pub stop_of : Flaw → CheckStop
-stop_of (flaw.NotAccepted why) = stop_for why
-stop_of (flaw.NotGuarded why) = guard_stop_for why
 
 -- The answer of a check of files that come to a release or to a first fault: the release is accepted, or has this
 -- fault, or the files have theirs. Want of memory and faults of the shelf say nothing of them.
 abbrev pub IsReleaseCheckAnswer : Result ReleasedFiles Fault → Result (Unit {0}) CheckStop → Type 0
 IsReleaseCheckAnswer outcome (Ok fine) = IsOkAnd outcome IsRightRelease
-IsReleaseCheckAnswer outcome (Err (stop.NotAccepted why)) = IsOkAnd outcome (IsFaultyRelease (flaw.NotAccepted why))
-IsReleaseCheckAnswer outcome (Err (stop.NotGuarded why)) = IsOkAnd outcome (IsFaultyRelease (flaw.NotGuarded why))
-IsReleaseCheckAnswer outcome (Err (stop.Inputs input)) = Fails (stopped_for input) outcome
+IsReleaseCheckAnswer outcome (Err (stop.Inputs why)) = Fails (stopped_for why) outcome
+IsReleaseCheckAnswer outcome (Err why) = IsOkAnd outcome (IsFaultyRelease why)

@@ -1,10 +1,9 @@
 ghost use Rattle.std.specs.Prelude.{◌≡◌, false, Ok};
-ghost use Rattle.sdc_base.specs.Answers.{Gives};
 ghost use Rattle.cert_check.specs.Cases.{IsCase};
 ghost use Rattle.cert_check.specs.Methods.{rounds_cells};
-ghost use Rattle.job_check.specs.GuardedReleases.{guarded_fault, flaw_of, IsRightGuarding};
+ghost use Rattle.job_check.specs.GuardedReleases.{guarded_fault, IsJudgement, IsRightGuarding};
 
-use crate::flaw::Flaw;
+use crate::stop::CheckStop;
 use attackers::{Extra, accept_extra};
 use cert_check::{Case, accept_certificate, check_tables};
 use certificate::Certificate;
@@ -22,11 +21,10 @@ pub(crate) fn accept_guarded(
     tables: &[Text],
     certificate: &Certificate,
     extra: &Extra,
-) -> Result<(), Flaw>
+) -> Result<(), CheckStop>
     requires is_case { IsCase case.now tables.now }
     requires hides { rounds_cells case.now.method ≡ false }
-    ensures exact { Gives flaw_of (λ u. u) result
-        (guarded_fault case.now soles.now tables.now certificate.now extra.now) }
+    ensures exact { IsJudgement (guarded_fault case.now soles.now tables.now certificate.now extra.now) result }
     ensures shows { result ≡ Ok tt → IsRightGuarding case.now soles.now tables.now certificate.now extra.now }
 {
     let hidden = accept_certificate(alloc, case, certificate)?;

@@ -9,9 +9,9 @@ ghost use Rattle.job_check.specs.Cases.{IsCaseOf};
 ghost use Rattle.job_check.specs.Reading.{IsReadyRelease, IsReleasedOf};
 ghost use Rattle.job_check.specs.ReleaseFiles.{ReleasedFiles as AnyReleased, released_with};
 
-use crate::flaw::Flaw;
 use crate::guarded::accept_guarded;
 use crate::reading::ReadRelease;
+use crate::stop::CheckStop;
 use attackers::soles;
 use cert_check::{Case, accept};
 use certificate::{Certificate, Extra};
@@ -26,7 +26,7 @@ use std::alloc::Global;
 /// the case of the job's settled cells.
 ///
 /// Afterwards the marks of the book may say that other cells are hidden; all else stays.
-pub(crate) fn judge(alloc: Global, read: &mut ReadRelease) -> Result<(), Flaw>
+pub(crate) fn judge(alloc: Global, read: &mut ReadRelease) -> Result<(), CheckStop>
     requires { IsReadyRelease read.old }
     ensures judged { (released : AnyReleased) → IsReleasedOf released read.old → IsJudgementOf released result }
     ensures same { OnOk result (IsSameRelease read.old read.new) }
@@ -66,7 +66,7 @@ fn judge_case(
     certificate: &Certificate,
     extra: &Option<Extra>,
     tables: &[Text],
-) -> Result<(), Flaw>
+) -> Result<(), CheckStop>
     requires is_case { IsCase case.now tables.now }
     requires hides { IfSome extra.now (λ one. rounds_cells case.now.method ≡ false) }
     requires told { TellFrequencies case.now.book.now rows.now }

@@ -3,13 +3,11 @@
 
 mod checking;
 mod contributors;
-mod flaw;
 mod guarded;
 mod judging;
 mod reading;
 mod stop;
 
 pub use checking::{accepted_release, check_release};
-pub use flaw::Flaw;
 pub use reading::ReadRelease;
 pub use stop::CheckStop;

@@ -1,7 +1,3 @@
-ghost use Rattle.std.specs.Prelude.{◌≡◌};
-ghost use Rattle.job_check.specs.Answers as spec;
-
-use crate::flaw::Flaw;
 use attackers::ExtraFault;
 use cert_check::CheckFault;
 use job_inputs::InputStop;
@@ -41,36 +37,30 @@ impl From<Memory> for CheckStop {
     }
 }
 
-impl From<Flaw> for CheckStop {
+impl From<CheckFault> for CheckStop {
     ghost use Rattle.std.specs.Prelude.{◌≡◌};
-    ghost use Rattle.job_check.specs.Answers.{stop_of};
+    ghost use Rattle.job_check.specs.Answers.{stop_for};
 
-    ghost from_gives = { λ flaw e. e ≡ stop_of flaw };
+    ghost from_gives = { λ fault e. e ≡ stop_for fault };
 
-    fn from(flaw: Flaw) -> Self {
-        match flaw {
-            Flaw::NotAccepted(fault) => stop_for(fault),
-            Flaw::NotGuarded(fault) => guard_stop_for(fault),
+    fn from(fault: CheckFault) -> Self {
+        match fault {
+            CheckFault::Memory => CheckStop::Inputs(InputStop::Memory),
+            other => CheckStop::NotAccepted(other),
         }
     }
 }
 
-// A fault of a certificate with its tables as a stop; want of memory is one of the inputs.
-fn stop_for(fault: CheckFault) -> CheckStop
-    ensures { result ≡ spec.stop_for fault }
-{
-    match fault {
-        CheckFault::Memory => CheckStop::Inputs(InputStop::Memory),
-        other => CheckStop::NotAccepted(other),
-    }
-}
+impl From<ExtraFault> for CheckStop {
+    ghost use Rattle.std.specs.Prelude.{◌≡◌};
+    ghost use Rattle.job_check.specs.Answers.{guard_stop_for};
 
-// A fault of extra cells as a stop; want of memory is one of the inputs.
-fn guard_stop_for(fault: ExtraFault) -> CheckStop
-    ensures { result ≡ spec.guard_stop_for fault }
-{
-    match fault {
-        ExtraFault::Memory => CheckStop::Inputs(InputStop::Memory),
-        other => CheckStop::NotGuarded(other),
+    ghost from_gives = { λ fault e. e ≡ guard_stop_for fault };
+
+    fn from(fault: ExtraFault) -> Self {
+        match fault {
+            ExtraFault::Memory => CheckStop::Inputs(InputStop::Memory),
+            other => CheckStop::NotGuarded(other),
+        }
     }
 }

@@ -7,7 +7,7 @@ use Rattle.office_io.specs.Trays.{TrayState}
 use Rattle.job_check.specs.Answers.{IsRightRelease, IsFaultyRelease}
 use Rattle.job_check.specs.Reading.{ReleaseComesTo}
 use Rattle.job_check.specs.ReleaseFiles.{ReleasedFiles, released_of}
-use Rattle.job_check.specs.declared.flaw.Flaw.TheVariants as flaw
+use Rattle.job_check.specs.declared.stop.CheckStop.TheVariants as check
 use Rattle.job_inputs.specs.Reading.{ReachedFile}
 use Rattle.job_inputs.specs.ClassifiedJobs.{HasOnlyLookedOn}
 use Rattle.job_inputs.specs.declared.faults.Fault.{Fault}
@@ -21,8 +21,8 @@ use Rattle.job_run.specs.declared.report.Report.TheVariants as report
 -- fault. Want of memory and faults of the shelf say nothing of them.
 abbrev pub MeetsCheck : Report → Result ReleasedFiles Fault → Type 0
 MeetsCheck report.Accepted outcome = IsOkAnd outcome IsRightRelease
-MeetsCheck (report.NotAccepted why) outcome = IsOkAnd outcome (IsFaultyRelease (flaw.NotAccepted why))
-MeetsCheck (report.NotGuarded why) outcome = IsOkAnd outcome (IsFaultyRelease (flaw.NotGuarded why))
+MeetsCheck (report.NotAccepted why) outcome = IsOkAnd outcome (IsFaultyRelease (check.NotAccepted why))
+MeetsCheck (report.NotGuarded why) outcome = IsOkAnd outcome (IsFaultyRelease (check.NotGuarded why))
 MeetsCheck (report.Refused reason) outcome = outcome ≡ Err reason
 MeetsCheck (report.ReadFault file) outcome = Unit {0}
 MeetsCheck report.Memory outcome = Unit {0}

@@ -23,8 +23,8 @@ use Rattle.release_writer.specs.ShownCells.{open_truth}
 use Rattle.repair.specs.HidingOrder.{protected_case}
 use Rattle.job_check.proofs.Judgements.{none-stops}
 use Rattle.job_check.specs.GuardedReleases.{guarded_fault, larger_set}
-use Rattle.job_check.specs.declared.flaw.Flaw.{Flaw}
-use Rattle.job_check.specs.declared.flaw.Flaw.TheVariants as flaw
+use Rattle.job_check.specs.declared.stop.CheckStop.{CheckStop}
+use Rattle.job_check.specs.declared.stop.CheckStop.TheVariants as stop
 use Rattle.release_laws.proofs.OneJudgement.{RestAlike, rest-alike, judged-alike, texts-alike, one-cells, one-system, of-case}
 use Rattle.release_laws.proofs.OneSoles.{one-soles}
 use Rattle.release_laws.proofs.OneText.{texts-same}
@@ -34,8 +34,8 @@ use Rattle.release_laws.specs.Laws.{GuardingIsAccepted, GuardsAreJudgedInOneWay}
 -- ---- in one way
 
 -- the first fault of a release with extra cells, by what it rests on
-abbrev guarded_by : Result (Unit {0}) CheckFault → Result (Unit {0}) CheckFault → Result (Unit {0}) ExtraFault → Result (Unit {0}) Flaw
-guarded_by signed texts guards = map_fault flaw.NotAccepted signed >>= λ _. map_fault flaw.NotAccepted texts >>= λ _. map_fault flaw.NotGuarded guards
+abbrev guarded_by : Result (Unit {0}) CheckFault → Result (Unit {0}) CheckFault → Result (Unit {0}) ExtraFault → Result (Unit {0}) CheckStop
+guarded_by signed texts guards = map_fault stop.NotAccepted signed >>= λ _. map_fault stop.NotAccepted texts >>= λ _. map_fault stop.NotGuarded guards
 
 -- the hidden set of a certificate is the same
 own-sets : (one other : Case) (c : Certificate) → RestAlike one other → own_set one c ≡ own_set other c

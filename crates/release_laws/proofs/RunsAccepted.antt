@@ -52,8 +52,8 @@ use Rattle.job_check.specs.Answers.{IsNotAcceptedWith}
 use Rattle.job_check.specs.Contributors.{extra_for}
 use Rattle.job_check.specs.GuardedReleases.{guarded_fault, AreSolesOf}
 use Rattle.job_check.specs.ReleaseFiles.{ReleasedFiles, released_of, released_with}
-use Rattle.job_check.specs.declared.flaw.Flaw.{Flaw}
-use Rattle.job_check.specs.declared.flaw.Flaw.TheVariants as flaw
+use Rattle.job_check.specs.declared.stop.CheckStop.{CheckStop}
+use Rattle.job_check.specs.declared.stop.CheckStop.TheVariants as check
 use Rattle.job_run.proofs.PutFiles.{AreHeld, all-held, guarded-names, names, no-file-to-round, ok-same, plain-names, some-before}
 use Rattle.job_run.proofs.SameBook.{still-book}
 use Rattle.job_run.proofs.Showing.{hidden-shown, values-shown}
@@ -319,16 +319,17 @@ read-so written guarded rounded files out before name settled release (Some base
 -- ---- a check of it
 
 -- no fault is none
-passes-no-flaw : (extra : Option Extra) (released : ReleasedFiles) (why : Flaw) → IsNotAcceptedWith extra released why → PassesWith extra released → ⊥
-passes-no-flaw None released (flaw.NotAccepted why) is passes = let both : ◌≡◌ {A = Result (Unit {0}) CheckFault} (Err why) (Ok tt) = sym is.first ∙ passes is.case is.is_case is.fits in absurd cc
-passes-no-flaw None released (flaw.NotGuarded why) is passes = is
-passes-no-flaw (Some extra) released why is passes = let both : ◌≡◌ {A = Result (Unit {0}) Flaw} (Err why) (Ok tt) = sym is.first ∙ passes is.case is.soles is.is_case is.fits is.are_soles in absurd cc
+passes-no-fault : (extra : Option Extra) (released : ReleasedFiles) (why : CheckStop) → IsNotAcceptedWith extra released why → PassesWith extra released → ⊥
+passes-no-fault None released (check.NotAccepted why) is passes = let both : ◌≡◌ {A = Result (Unit {0}) CheckFault} (Err why) (Ok tt) = sym is.first ∙ passes is.case is.is_case is.fits in absurd cc
+passes-no-fault None released (check.NotGuarded why) is passes = is
+passes-no-fault None released (check.Inputs why) is passes = is
+passes-no-fault (Some extra) released why is passes = let both : ◌≡◌ {A = Result (Unit {0}) CheckStop} (Err why) (Ok tt) = sym is.first ∙ passes is.case is.soles is.is_case is.fits is.are_soles in absurd cc
 
 conclude : (answer : Report) (released : ReleasedFiles) → MeetsCheck answer (Ok released) → SettlesCheck answer (Ok released) → HasNoFault released → (answer ≡ report.Accepted) ⊎ (answer ≡ report.Memory)
 conclude report.Accepted released meets ends passes = inl refl
 conclude report.Memory released meets ends passes = inr refl
-conclude (report.NotAccepted why) released meets ends passes = absurd (passes-no-flaw released.extra released (flaw.NotAccepted why) meets passes)
-conclude (report.NotGuarded why) released meets ends passes = absurd (passes-no-flaw released.extra released (flaw.NotGuarded why) meets passes)
+conclude (report.NotAccepted why) released meets ends passes = absurd (passes-no-fault released.extra released (check.NotAccepted why) meets passes)
+conclude (report.NotGuarded why) released meets ends passes = absurd (passes-no-fault released.extra released (check.NotGuarded why) meets passes)
 conclude (report.Refused reason) released meets ends passes = absurd ends
 conclude (report.ReadFault f) released meets ends passes = absurd ends
 conclude (report.Released s) released meets ends passes = absurd meets
