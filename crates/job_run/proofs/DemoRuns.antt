@@ -15,8 +15,9 @@ use Rattle.job_run.specs.Demos.{IsDemoOf, SaysAnswer, SaysStuck}
 use Rattle.job_run.specs.Endings.{IsUndecided}
 use Rattle.job_run.specs.GuardedReleases.{HasNoGuard}
 use Rattle.job_run.specs.PutReleases.{HasReleased}
-use Rattle.job_run.specs.ReleaseRuns.{IsReleaseRunOf}
-use Rattle.job_run.specs.Reports.{AgreesWith, FaultsHaveCauses, StopsRelease, report_of}
+use Rattle.job_run.specs.CommandRuns.{AgreesWith}
+use Rattle.job_run.specs.ReleaseRuns.{IsReleaseEnd, IsReleaseRunOf, StopsRelease, report_of}
+use Rattle.job_run.specs.Reports.{FaultsHaveCauses}
 use Rattle.job_run.specs.Summaries.{demo_of, stopped_demo, stuck_demo}
 use Rattle.job_run.specs.declared.put.Release.{Release}
 use Rattle.job_run.specs.declared.report.DemoSummary.{DemoSummary}
@@ -48,7 +49,7 @@ says-stuck seed records (stuck.Nodes nodes) repairs shown against meets =
 
 -- it says what stopped its run
 says-stop : (seed records : ℕ) (e : Report) (after : ShelfState) (tray : TrayState) (demo : DemoSummary)
-    → after.faults ≡ 0 → tray.faults ≡ 0 → StopsRelease e → AgreesWith e (settled_of purpose.Release (demo_files seed records) job_name)
+    → after.faults ≡ 0 → tray.faults ≡ 0 → StopsRelease e → AgreesWith IsReleaseEnd e (settled_of purpose.Release (demo_files seed records) job_name)
     → FaultsHaveCauses e (shelf_with (demo_files seed records)) after empty_tray tray
     → stopped_demo e ≡ Ok demo → SaysAnswer (demo_files seed records) e tray demo
 says-stop seed records (report.Refused reason) after tray demo calm still stops meets causes is = sym (ok-is is)
@@ -61,15 +62,7 @@ says-stop seed records (report.Undecided why repairs shown against) after tray d
 says-stop seed records (report.ReadFault file) after tray demo calm still stops meets causes is = absurd (never-rose _ _ refl calm (read-counted (report.ReadFault file) _ after empty_tray tray file causes refl))
 says-stop seed records (report.WriteFault file) after tray demo calm still stops meets causes is = absurd (never-rose _ _ refl still (causes.write_fault file refl))
 says-stop seed records report.Memory after tray demo calm still stops meets causes is = absurd cc
-says-stop seed records (report.Released s) after tray demo calm still stops meets causes is = absurd stops
-says-stop seed records report.Accepted after tray demo calm still stops meets causes is = absurd stops
-says-stop seed records (report.Intervals n) after tray demo calm still stops meets causes is = absurd stops
-says-stop seed records (report.Audited n m) after tray demo calm still stops meets causes is = absurd stops
-says-stop seed records (report.Demo other) after tray demo calm still stops meets causes is = absurd stops
-says-stop seed records report.Migrated after tray demo calm still stops meets causes is = absurd stops
-says-stop seed records report.Usage after tray demo calm still stops meets causes is = absurd stops
-says-stop seed records (report.NotAccepted why) after tray demo calm still stops meets causes is = absurd stops
-says-stop seed records (report.NotGuarded why) after tray demo calm still stops meets causes is = absurd stops
+says-stop seed records other after tray demo calm still stops meets causes is = absurd stops
 
 -- all that holds of how a run for a release went on
 pub record WentOn (name : List ℕ) (outcome : Result Release Report) (old new : ShelfState) (before after : TrayState) : Type 0 where
@@ -83,7 +76,7 @@ says : (seed records : ℕ) (outcome : Result Release Report) (after : ShelfStat
     → after.faults ≡ 0 → tray.faults ≡ 0 → WentOn job_name outcome (shelf_with (demo_files seed records)) after empty_tray tray
     → demo_of outcome ≡ Ok demo → SaysAnswer (demo_files seed records) (report_of outcome) tray demo
 says seed records (Ok release) after tray demo calm still went is = (release, went.released (demo_files seed records) refl, refl, sym (ok-is is))
-says seed records (Err e) after tray demo calm still went is = says-stop seed records e after tray demo calm still went.stops (went.run.told (demo_files seed records) refl) went.causes is
+says seed records (Err e) after tray demo calm still went is = says-stop seed records e after tray demo calm still went.stops (went.run.run.told (demo_files seed records) refl) went.causes is
 
 from-memory : (seed records : ℕ) (outcome : Result Release Report) (after : ShelfState) (tray : TrayState) (result : Result DemoSummary Memory) → after.faults ≡ 0 → tray.faults ≡ 0
     → WentOn job_name outcome (shelf_with (demo_files seed records)) after empty_tray tray → result ≡ demo_of outcome → IfOk result (λ demo. IsDemoOf seed records demo)

@@ -47,7 +47,7 @@ use Rattle.job_run.specs.Releases.{shown_in, summary_of}
 use Rattle.job_run.specs.FileCounts.{contributors_count, file_count}
 use Rattle.job_run.specs.Roundings.{base_in_units, job_base}
 use Rattle.job_run.specs.Reporting.{guard_failure_report}
-use Rattle.job_run.specs.Reports.{ComesToRelease}
+use Rattle.job_run.specs.Endings.{ComesToRelease}
 use Rattle.job_run.specs.declared.put.Release.{Release}
 use Rattle.job_run.proofs.Releasing.{each-flag, hiding-comes, outcome-for, stuck-comes, same-contributors, signs-for}
 use Rattle.job_run.proofs.SameBook.{same-cells}
@@ -155,10 +155,10 @@ guard-for settled job system new cells rows name one hidden_set certificate outc
 
 -- why a hidden set isn't guarded stops the run
 pub guard-failure-comes : (settled : SettledInputs) (hidden_set : HiddenSet) (certificate : Certificate) (why : GuardFailure) → IsGuardFor settled hidden_set certificate (Err why) → ComesToRelease settled (Err (guard_failure_report why))
-guard-failure-comes settled hidden_set certificate (guard_failure.CannotAgainst found) is = (tt, record { hidden_set = hidden_set; certificate = certificate; guards = is })
+guard-failure-comes settled hidden_set certificate (guard_failure.CannotAgainst found) is = record { hidden_set = hidden_set; certificate = certificate; guards = is }
 guard-failure-comes settled hidden_set certificate (guard_failure.Undecided stopped against) is =
     stuck-comes settled stopped.fault stopped.repairs stopped.shown (Some against) (record { hidden_set = hidden_set; certificate = certificate; guards = is })
-guard-failure-comes settled hidden_set certificate guard_failure.Memory is = (tt, tt)
+guard-failure-comes settled hidden_set certificate guard_failure.Memory is = tt
 
 -- a guarded set makes a guarded release
 pub guarded-is : (settled : SettledInputs) (release : Release) (hidden_set : HiddenSet) (certificate : Certificate) (guarded : GuardedCells) (name : List ℕ) → IsGuardFor settled hidden_set certificate (Ok guarded)

@@ -11,6 +11,7 @@ pub mod KnownCells
 mod GuardingTables
 pub mod GuardedJobs
 pub mod Outcomes
+mod CommandRuns
 pub mod Settling
 pub mod Words
 pub mod ReleaseRuns

@@ -1,7 +1,6 @@
 -- A certificate that is put again, from how it went on.
-use Rattle.std.proofs.Common.{◌≡◌, ◌≢◌, inl, inr, ℕ, true, false, List, Result, Ok, Err, refl, ap, sym, subst}
+use Rattle.std.proofs.Common.{◌≡◌, inl, inr, ℕ, true, false, List, Result, Ok, Err, refl, subst}
 use Rattle.std.specs.Str.{bytes_eq}
-use Rattle.sdc_base.specs.Answers.{Fails}
 use Rattle.certificate.specs.Texts.{text_of}
 use Rattle.certificate.specs.declared.certificate.Certificate.{Certificate}
 use Rattle.office_io.specs.Files.{Files}
@@ -10,7 +9,7 @@ use Rattle.office_io.specs.Trays.{TrayState}
 use Rattle.job_inputs.specs.CertificateFile.{certificate_in, IsSoundCertificate}
 use Rattle.job_inputs.specs.Looks.{IsFile}
 use Rattle.job_inputs.specs.ReadFiles.{output_limit}
-use Rattle.job_inputs.specs.Reading.{stopped_for, ReachedFile, IsReadFrom}
+use Rattle.job_inputs.specs.Reading.{ReachedFile, IsReadFrom}
 use Rattle.job_inputs.specs.declared.faults.Fault.{Fault}
 use Rattle.job_inputs.specs.declared.faults.Fault.TheVariants as fault
 use Rattle.job_inputs.specs.declared.file_ref.FileRef.{FileRef}
@@ -18,13 +17,16 @@ use Rattle.job_inputs.specs.declared.file_ref.FileRef.TheVariants as file
 use Rattle.job_inputs.specs.declared.stop.InputStop.{InputStop}
 use Rattle.job_inputs.specs.declared.stop.InputStop.TheVariants as input
 use Rattle.job_inputs.proofs.Causes.{nothing-looked, read-wider}
-use Rattle.job_run.specs.Migrations.{migrating_of, IsPutAgain, IsMigrationAnswer, MeetsMigration, MigrationLeaves, SettlesMigration, MigrationComesTo, IsMigrationOf}
+use Rattle.job_run.specs.CommandRuns.{AgreesWith, IsAnswer}
+use Rattle.job_run.specs.Migrations.{migrating_of, IsPutAgain, IsMigrationEnd, MigrationLeaves, MigrationComesTo, IsMigrationOf}
 use Rattle.job_run.specs.Puts.{HasAtMostOnePut}
+use Rattle.job_run.specs.ReleaseRuns.{StopsRelease}
 use Rattle.job_run.specs.Reporting.{inputs_report}
 use Rattle.job_run.specs.Reports.{FaultsHaveCauses, LeavesAll, reading_of}
 use Rattle.job_run.specs.declared.report.Report.{Report}
 use Rattle.job_run.specs.declared.report.Report.TheVariants as report
-use Rattle.job_run.proofs.Outcomes.{memory-comes, read-cause, read-comes, inputs-cause, inputs-come, no-fault, no-memory, read-counted}
+use Rattle.job_run.proofs.CommandRuns.{inputs-run, run-of}
+use Rattle.job_run.proofs.Outcomes.{memory-comes, read-comes, failed-cause, inputs-stop, no-fault, no-memory}
 
 -- ---- the two names
 
@@ -57,64 +59,23 @@ file-read old new result before after apart read =
 
 -- ---- no certificate was read
 
-inputs-answer : (e : InputStop) → IsMigrationAnswer (inputs_report e)
-inputs-answer (input.Refused f) = tt
-inputs-answer (input.ReadFault f) = tt
-inputs-answer input.Memory = tt
-
-inputs-meet : (e : InputStop) (outcome : Result Certificate Fault) → Fails (stopped_for e) outcome → MeetsMigration (inputs_report e) outcome
-inputs-meet (input.Refused f) outcome h = h
-inputs-meet (input.ReadFault f) outcome h = tt
-inputs-meet input.Memory outcome h = tt
-
-inputs-leave : (e : InputStop) (outcome : Result Certificate Fault) (new : List ℕ) (tray : TrayState) → MigrationLeaves (inputs_report e) outcome new tray tray
+inputs-leave : (e : InputStop) (outcome : Result Certificate Fault) (new : List ℕ) (tray : TrayState) → MigrationLeaves new (inputs_report e) outcome tray tray
 inputs-leave (input.Refused f) outcome new tray = refl
 inputs-leave (input.ReadFault f) outcome new tray = refl
 inputs-leave input.Memory outcome new tray = refl
-
-inputs-put-none : (e : InputStop) → inputs_report e ≢ report.Migrated
-inputs-put-none (input.Refused f) is = absurd cc
-inputs-put-none (input.ReadFault f) is = absurd cc
-inputs-put-none input.Memory is = absurd cc
-
-settles : (answer : Report) (outcome : Result Certificate Fault) → MeetsMigration answer outcome → ((f : FileRef) → answer ≢ report.ReadFault f) → ((f : FileRef) → answer ≢ report.WriteFault f) → SettlesMigration answer outcome
-settles report.Migrated (Ok certificate) h no_read no_write = inl refl
-settles report.Migrated (Err f) h no_read no_write = absurd cc
-settles (report.Refused f) (Ok certificate) h no_read no_write = absurd cc
-settles (report.Refused f) (Err g) h no_read no_write = inl (let same : g ≡ f = cc in ap report.Refused (sym same))
-settles (report.ReadFault f) outcome h no_read no_write = absurd (no_read f refl)
-settles (report.WriteFault f) outcome h no_read no_write = absurd (no_write f refl)
-settles report.Memory (Ok certificate) h no_read no_write = inr refl
-settles report.Memory (Err f) h no_read no_write = inr refl
-settles report.Accepted outcome h no_read no_write = absurd h
-settles (report.Released s) outcome h no_read no_write = absurd h
-settles (report.Intervals n) outcome h no_read no_write = absurd h
-settles (report.Audited n m) outcome h no_read no_write = absurd h
-settles (report.Demo demo) outcome h no_read no_write = absurd h
-settles report.Usage outcome h no_read no_write = absurd h
-settles (report.Cannot cell side multipliers) outcome h no_read no_write = absurd h
-settles (report.CannotAgainst row cell side multipliers) outcome h no_read no_write = absurd h
-settles report.NoRounding outcome h no_read no_write = absurd h
-settles (report.NotAccepted why) outcome h no_read no_write = absurd h
-settles (report.NotGuarded why) outcome h no_read no_write = absurd h
-settles (report.Undecided why repairs shown against) outcome h no_read no_write = absurd h
 
 -- what stopped the reading is reported, and nothing is put
 pub stopped-migration : (old new : List ℕ) (e : InputStop) (shelf shelved : ShelfState) (tray : TrayState)
     → IsReadFrom {X = Certificate} (λ certificate. certificate) (λ fs. migrating_of fs old new) (λ fs. MigrationComesTo old new) IsSoundCertificate output_limit (Err e) shelf shelved
     → IsMigrationOf old new (inputs_report e) shelf shelved tray tray
-stopped-migration old new e shelf shelved tray read =
-    let cause = inputs-cause e shelf shelved tray read.cause in
-    record {
-      answers = inputs-answer e;
-      told = λ fs held. inputs-meet e (migrating_of fs old new) (read.told fs held);
-      left = λ fs held. inputs-leave e (migrating_of fs old new) new tray;
-      complete = λ fs held no_read no_write. settles (inputs_report e) (migrating_of fs old new) (inputs-meet e (migrating_of fs old new) (read.told fs held)) (λ f is. no_read (read-counted (inputs_report e) shelf shelved tray tray f cause is)) (λ f is. no_write (cause.write_fault f is));
-      came_to = λ fs held. inputs-come e (MigrationComesTo old new) fs shelved (read.came_to fs held);
-      one_put = λ is. absurd (inputs-put-none e is);
-      at_most_one_put = inl refl;
-      looked = read.shelf;
-    }
+stopped-migration old new e shelf shelved tray read = record {
+  run =
+      inputs-run (λ fs. migrating_of fs old new) (λ fs. MigrationComesTo old new) IsMigrationEnd (MigrationLeaves new) e shelf shelved tray read.told (λ outcome. inputs-leave e outcome new tray) read.cause
+      read.came_to;
+  one_put = λ is. absurd (subst StopsRelease is (inputs-stop e));
+  at_most_one_put = inl refl;
+  looked = read.shelf;
+}
 
 -- ---- a certificate was read
 
@@ -125,29 +86,16 @@ by-put : (certificate : Certificate) (new : List ℕ) (before after : TrayState)
 by-put certificate new before after P migrated failed memory report.Migrated h = migrated h
 by-put certificate new before after P migrated failed memory (report.WriteFault f) h = failed f h
 by-put certificate new before after P migrated failed memory report.Memory h = memory h
-by-put certificate new before after P migrated failed memory (report.Released s) h = absurd h
-by-put certificate new before after P migrated failed memory report.Accepted h = absurd h
-by-put certificate new before after P migrated failed memory (report.Intervals n) h = absurd h
-by-put certificate new before after P migrated failed memory (report.Audited n m) h = absurd h
-by-put certificate new before after P migrated failed memory (report.Demo demo) h = absurd h
-by-put certificate new before after P migrated failed memory report.Usage h = absurd h
-by-put certificate new before after P migrated failed memory (report.Refused f) h = absurd h
-by-put certificate new before after P migrated failed memory (report.Cannot cell side multipliers) h = absurd h
-by-put certificate new before after P migrated failed memory (report.CannotAgainst row cell side multipliers) h = absurd h
-by-put certificate new before after P migrated failed memory report.NoRounding h = absurd h
-by-put certificate new before after P migrated failed memory (report.NotAccepted why) h = absurd h
-by-put certificate new before after P migrated failed memory (report.NotGuarded why) h = absurd h
-by-put certificate new before after P migrated failed memory (report.Undecided why repairs shown against) h = absurd h
-by-put certificate new before after P migrated failed memory (report.ReadFault f) h = absurd h
+by-put certificate new before after P migrated failed memory other h = absurd h
 
-put-answers : (certificate : Certificate) (new : List ℕ) (answer : Report) (before after : TrayState) → IsPutAgain certificate new answer before after → IsMigrationAnswer answer
-put-answers certificate new answer before after h = by-put certificate new before after IsMigrationAnswer (λ put. tt) (λ f put. tt) (λ put. tt) answer h
+put-answers : (certificate : Certificate) (new : List ℕ) (answer : Report) (before after : TrayState) → IsPutAgain certificate new answer before after → IsAnswer IsMigrationEnd answer
+put-answers certificate new answer before after h = by-put certificate new before after (λ (one : Report). IsAnswer IsMigrationEnd one) (λ put. tt) (λ f put. tt) (λ put. tt) answer h
 
-put-meets : (certificate : Certificate) (new : List ℕ) (answer : Report) (before after : TrayState) (outcome : Result Certificate Fault) → outcome ≡ Ok certificate → IsPutAgain certificate new answer before after → MeetsMigration answer outcome
-put-meets certificate new answer before after outcome is h = by-put certificate new before after (λ (one : Report). MeetsMigration one outcome) (λ put. rw is refl) (λ f put. rw is refl) (λ put. tt) answer h
+put-agrees : (certificate : Certificate) (new : List ℕ) (answer : Report) (before after : TrayState) (outcome : Result Certificate Fault) → outcome ≡ Ok certificate → IsPutAgain certificate new answer before after → AgreesWith IsMigrationEnd answer outcome
+put-agrees certificate new answer before after outcome is h = by-put certificate new before after (λ (one : Report). AgreesWith IsMigrationEnd one outcome) (λ put. rw is tt) (λ f put. rw is put.0) (λ put. tt) answer h
 
-put-leaves : (certificate : Certificate) (new : List ℕ) (answer : Report) (before after : TrayState) (outcome : Result Certificate Fault) → outcome ≡ Ok certificate → IsPutAgain certificate new answer before after → MigrationLeaves answer outcome new before after
-put-leaves certificate new answer before after outcome is h = by-put certificate new before after (λ (one : Report). MigrationLeaves one outcome new before after) (λ put. rw is put) (λ f put. rw is put) (λ put. put) answer h
+put-leaves : (certificate : Certificate) (new : List ℕ) (answer : Report) (before after : TrayState) (outcome : Result Certificate Fault) → outcome ≡ Ok certificate → IsPutAgain certificate new answer before after → MigrationLeaves new answer outcome before after
+put-leaves certificate new answer before after outcome is h = by-put certificate new before after (λ (one : Report). MigrationLeaves new one outcome before after) (λ put. rw is put) (λ f put. rw is put) (λ put. put) answer h
 
 -- whatever was put, the tray isn't one that had to stay
 pub put-leaves-all : (certificate : Certificate) (new : List ℕ) (answer : Report) (before after : TrayState) → IsPutAgain certificate new answer before after → LeavesAll answer before after
@@ -156,7 +104,7 @@ put-leaves-all certificate new answer before after h = by-put certificate new be
 pub put-cause : (certificate : Certificate) (new : List ℕ) (answer : Report) (shelf shelved : ShelfState) (before after : TrayState) → IsPutAgain certificate new answer before after → FaultsHaveCauses answer shelf shelved before after
 put-cause certificate new answer shelf shelved before after h =
     by-put certificate new before after (λ (one : Report). FaultsHaveCauses one shelf shelved before after) (λ put. no-fault _ shelf shelved before after refl (λ f is. absurd cc))
-    (λ f put. record { reading = read-cause shelf shelved; write_fault = λ g is. put.1.failed }) (λ put. no-memory shelf shelved before after) answer h
+    (λ f put. failed-cause f shelf shelved before after put.1.failed) (λ put. no-memory shelf shelved before after) answer h
 
 put-comes : (certificate : Certificate) (new : List ℕ) (answer : Report) (before after : TrayState) (comes : FileRef → List ℕ → Type 0) (files : Files) (shelved : ShelfState) → IsPutAgain certificate new answer before after → ReachedFile comes (reading_of answer) files shelved
 put-comes certificate new answer before after comes files shelved h =
@@ -166,21 +114,15 @@ put-once : (certificate : Certificate) (new : List ℕ) (answer : Report) (befor
 put-once certificate new answer before after h =
     by-put certificate new before after (λ (one : Report). HasAtMostOnePut new before after) (λ put. inr (text_of certificate, inl put.0)) (λ f put. inr (text_of certificate, inr put.1)) (λ put. inl put) answer h
 
-not-read : (certificate : Certificate) (new : List ℕ) (answer : Report) (before after : TrayState) → IsPutAgain certificate new answer before after → (f : FileRef) → answer ≢ report.ReadFault f
-not-read certificate new answer before after h f is = subst (λ (a : Report). IsPutAgain certificate new a before after) is h
-
 -- the certificate was put again, in part, or not at all
 pub put-migration : (old new : List ℕ) (certificate : Certificate) (answer : Report) (shelf shelved : ShelfState) (before after : TrayState)
     → IsReadFrom {X = Certificate} (λ certificate. certificate) (λ fs. migrating_of fs old new) (λ fs. MigrationComesTo old new) IsSoundCertificate output_limit (Ok certificate) shelf shelved
     → IsPutAgain certificate new answer before after → IsMigrationOf old new answer shelf shelved before after
 put-migration old new certificate answer shelf shelved before after read h = record {
-  answers = put-answers certificate new answer before after h;
-  told = λ fs held. put-meets certificate new answer before after (migrating_of fs old new) (read.told fs held) h;
-  left = λ fs held. put-leaves certificate new answer before after (migrating_of fs old new) (read.told fs held) h;
-  complete = λ fs held no_read no_write.
-      settles answer (migrating_of fs old new) (put-meets certificate new answer before after (migrating_of fs old new) (read.told fs held) h) (not-read certificate new answer before after h)
-      (λ f is. no_write ((put-cause certificate new answer shelf shelved before after h).write_fault f is));
-  came_to = λ fs held. put-comes certificate new answer before after (MigrationComesTo old new) fs shelved h;
+  run =
+      run-of (λ fs. migrating_of fs old new) (λ fs. MigrationComesTo old new) IsMigrationEnd (MigrationLeaves new) answer shelf shelved before after (put-answers certificate new answer before after h)
+      (λ fs held. put-agrees certificate new answer before after (migrating_of fs old new) (read.told fs held) h) (λ fs held. put-leaves certificate new answer before after (migrating_of fs old new) (read.told fs held) h)
+      (put-cause certificate new answer shelf shelved before after h) (λ fs held. put-comes certificate new answer before after (MigrationComesTo old new) fs shelved h);
   one_put = λ is. (certificate, subst (λ (a : Report). IsPutAgain certificate new a before after) is h);
   at_most_one_put = put-once certificate new answer before after h;
   looked = read.shelf;

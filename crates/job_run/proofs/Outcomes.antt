@@ -1,26 +1,29 @@
 -- What a run comes to, from what its steps came to.
-use Rattle.std.proofs.Common.{◌≡◌, ◌≢◌, inl, inr, List, ℕ, Option, Result, Ok, Err, IfOk, IsErrOf, IsOkAnd, refl, ap, subst, sym}
-use Rattle.sdc_base.specs.Answers.{Fails}
+use Rattle.std.proofs.Common.{◌≡◌, ◌≢◌, inl, inr, List, ℕ, Option, Result, Ok, Err, IsErrOf, IsOkAnd, refl, ap}
 use Rattle.sdc_base.specs.Counts.{HasRisen}
 use Rattle.sdc_base.specs.declared.side.Side.{Side}
 use Rattle.attackers.specs.declared.extra.Against.{Against}
+use Rattle.interval_audit.specs.declared.answer.AskFault.{AskFault}
+use Rattle.interval_audit.specs.declared.answer.AskFault.TheVariants as ask
 use Rattle.office_io.specs.Files.{Files}
 use Rattle.office_io.specs.Shelves.{ShelfState}
 use Rattle.office_io.specs.Trays.{TrayState}
 use Rattle.worlds.specs.declared.multipliers.Multipliers.{Multipliers}
 use Rattle.worlds.specs.declared.refuted.Refuted.{Refuted}
-use Rattle.job_inputs.specs.Reading.{stopped_for, HasCause, ReachedFile}
+use Rattle.job_inputs.specs.Reading.{HasCause, ReachedFile}
 use Rattle.job_inputs.specs.ClassifiedJobs.{SettledInputs}
 use Rattle.job_inputs.specs.declared.faults.Fault.{Fault}
 use Rattle.job_inputs.specs.declared.file_ref.FileRef.{FileRef}
 use Rattle.job_inputs.specs.declared.stop.InputStop.{InputStop}
 use Rattle.job_inputs.specs.declared.stop.InputStop.TheVariants as input
 use Rattle.job_inputs.proofs.Causes.{cause-as, come-on}
-use Rattle.job_run.specs.Endings.{IsReleaseOf}
-use Rattle.job_run.specs.PutReleases.{IsSomeRelease, PutsOnce}
+use Rattle.job_run.specs.CommandRuns.{AgreesWith}
+use Rattle.job_run.specs.Endings.{ComesToRelease}
+use Rattle.job_run.specs.PutReleases.{PutsReleaseWhere}
 use Rattle.job_run.specs.Puts.{SomeWhole, OneInPart}
-use Rattle.job_run.specs.Reporting.{inputs_report, puts_report}
-use Rattle.job_run.specs.Reports.{AgreesWith, IsEndWithoutRelease, FaultsHaveCauses, LeavesTray, LeavesAll, StopsRelease, reading_of}
+use Rattle.job_run.specs.ReleaseRuns.{IsReleaseEnd, StopsRelease}
+use Rattle.job_run.specs.Reporting.{inputs_report, puts_report, question_report}
+use Rattle.job_run.specs.Reports.{FaultsHaveCauses, LeavesAll, reading_of}
 use Rattle.job_run.specs.declared.put.Release.{Release}
 use Rattle.plain_text.specs.declared.stop.Stop.{Stop}
 use Rattle.plain_text.specs.declared.stop.Stop.TheVariants as puts
@@ -32,6 +35,11 @@ use Rattle.job_run.specs.declared.report.Stuck.{Stuck}
 pub ok-and : {A F : Type 0} (P : A → Type 0) (o : Result A F) → IsOkAnd o P → (x : A) × (o ≡ Ok x) × P x
 ok-and P (Ok x) h = (x, refl, h)
 ok-and P (Err f) h = absurd h
+
+-- what holds of a value holds where more is known of it
+pub ok-so : {A F : Type 0} (P Q : A → Type 0) (o : Result A F) → ((x : A) → P x → Q x) → IsOkAnd o P → IsOkAnd o Q
+ok-so P Q (Ok x) so h = so x h
+ok-so P Q (Err f) so h = absurd h
 
 -- ---- reading that names no file
 
@@ -60,6 +68,10 @@ no-fault answer old new before after read put = record { reading = rw read (read
 pub no-memory : (old new : ShelfState) (before after : TrayState) → FaultsHaveCauses report.Memory old new before after
 no-memory old new before after = record { reading = memory-cause old new; write_fault = λ f is. absurd cc }
 
+-- a file that can't be written was counted
+pub failed-cause : (f : FileRef) (old new : ShelfState) (before after : TrayState) → HasRisen before.faults after.faults → FaultsHaveCauses (report.WriteFault f) old new before after
+failed-cause f old new before after failed = record { reading = read-cause old new; write_fault = λ g is. failed }
+
 -- a read fault was counted
 pub read-counted : (answer : Report) (old new : ShelfState) (before after : TrayState) (f : FileRef) → FaultsHaveCauses answer old new before after → answer ≡ report.ReadFault f → HasRisen old.faults new.faults
 read-counted answer old new before after f causes is = causes.reading.read_fault f (ap reading_of is)
@@ -87,72 +99,83 @@ inputs-stop (input.Refused f) = tt
 inputs-stop (input.ReadFault f) = tt
 inputs-stop input.Memory = tt
 
-pub inputs-meet : (e : InputStop) (outcome : Result SettledInputs Fault) → Fails (stopped_for e) outcome → AgreesWith (inputs_report e) outcome
-inputs-meet (input.Refused f) outcome h = h
-inputs-meet (input.ReadFault f) outcome h = tt
-inputs-meet input.Memory outcome h = tt
-
-pub inputs-leave : (e : InputStop) (outcome : Result SettledInputs Fault) (tray : TrayState) → LeavesTray (inputs_report e) outcome tray tray
-inputs-leave (input.Refused f) outcome tray = tt
-inputs-leave (input.ReadFault f) outcome tray = tt
-inputs-leave input.Memory outcome tray = inl refl
-
 pub inputs-leave-all : (e : InputStop) (tray : TrayState) → LeavesAll (inputs_report e) tray tray
 inputs-leave-all (input.Refused f) tray = refl
 inputs-leave-all (input.ReadFault f) tray = refl
 inputs-leave-all input.Memory tray = tt
 
-pub inputs-put-none : (e : InputStop) (tray : TrayState) → PutsOnce (inputs_report e) tray tray
-inputs-put-none (input.Refused f) tray = refl
-inputs-put-none (input.ReadFault f) tray = refl
-inputs-put-none input.Memory tray = inl refl
+pub inputs-put-none : (P : Release → Type 0) (e : InputStop) (tray : TrayState) → PutsReleaseWhere P (inputs_report e) tray tray
+inputs-put-none P (input.Refused f) tray = refl
+inputs-put-none P (input.ReadFault f) tray = refl
+inputs-put-none P input.Memory tray = inl refl
+
+-- ---- a question about released tables that stopped short
+
+pub question-stops : (why : AskFault) → StopsRelease (question_report why)
+question-stops (ask.Work walk) = tt
+question-stops (ask.Wide walk place) = tt
+question-stops (ask.Size question hidden) = tt
+question-stops ask.Memory = tt
+
+pub question-leaves-all : (why : AskFault) (tray : TrayState) → LeavesAll (question_report why) tray tray
+question-leaves-all (ask.Work walk) tray = refl
+question-leaves-all (ask.Wide walk place) tray = refl
+question-leaves-all (ask.Size question hidden) tray = refl
+question-leaves-all ask.Memory tray = tt
+
+pub question-cause : (why : AskFault) (old new : ShelfState) (tray : TrayState) → FaultsHaveCauses (question_report why) old new tray tray
+question-cause (ask.Work walk) old new tray = no-fault _ old new tray tray refl (λ f is. absurd cc)
+question-cause (ask.Wide walk place) old new tray = no-fault _ old new tray tray refl (λ f is. absurd cc)
+question-cause (ask.Size question hidden) old new tray = no-fault _ old new tray tray refl (λ f is. absurd cc)
+question-cause ask.Memory old new tray = no-memory old new tray tray
+
+pub question-comes : (why : AskFault) (comes : FileRef → List ℕ → Type 0) (files : Files) (new : ShelfState) → ReachedFile comes (reading_of (question_report why)) files new
+question-comes (ask.Work walk) comes files new = read-comes comes files new
+question-comes (ask.Wide walk place) comes files new = read-comes comes files new
+question-comes (ask.Size question hidden) comes files new = read-comes comes files new
+question-comes ask.Memory comes files new = memory-comes comes files new
 
 -- ---- settled inputs that come to no release
 
 -- what holds of each report of such an end holds of them all
-by-end : (P : Report → Type 0) → ((cell : ℕ) (side : Side) (multipliers : Multipliers) → P (report.Cannot cell side multipliers))
+by-end : (settled : SettledInputs) (P : Report → Type 0) → ((cell : ℕ) (side : Side) (multipliers : Multipliers) → P (report.Cannot cell side multipliers))
     → ((row cell : ℕ) (side : Side) (multipliers : Multipliers) → P (report.CannotAgainst row cell side multipliers)) → P report.NoRounding
     → ((why : Stuck) (repairs : List Refuted) (shown : List ℕ) (against : Option Against) → P (report.Undecided why repairs shown against)) → P report.Memory
-    → (e : Report) → IsEndWithoutRelease e → P e
-by-end P cannot cannot_against no_rounding undecided memory (report.Cannot cell side multipliers) end = cannot cell side multipliers
-by-end P cannot cannot_against no_rounding undecided memory (report.CannotAgainst row cell side multipliers) end = cannot_against row cell side multipliers
-by-end P cannot cannot_against no_rounding undecided memory report.NoRounding end = no_rounding
-by-end P cannot cannot_against no_rounding undecided memory (report.Undecided why repairs shown against) end = undecided why repairs shown against
-by-end P cannot cannot_against no_rounding undecided memory report.Memory end = memory
-by-end P cannot cannot_against no_rounding undecided memory (report.Released s) end = absurd end
-by-end P cannot cannot_against no_rounding undecided memory report.Accepted end = absurd end
-by-end P cannot cannot_against no_rounding undecided memory (report.Intervals n) end = absurd end
-by-end P cannot cannot_against no_rounding undecided memory (report.Audited n m) end = absurd end
-by-end P cannot cannot_against no_rounding undecided memory (report.Demo demo) end = absurd end
-by-end P cannot cannot_against no_rounding undecided memory report.Migrated end = absurd end
-by-end P cannot cannot_against no_rounding undecided memory report.Usage end = absurd end
-by-end P cannot cannot_against no_rounding undecided memory (report.Refused f) end = absurd end
-by-end P cannot cannot_against no_rounding undecided memory (report.NotAccepted why) end = absurd end
-by-end P cannot cannot_against no_rounding undecided memory (report.NotGuarded why) end = absurd end
-by-end P cannot cannot_against no_rounding undecided memory (report.ReadFault f) end = absurd end
-by-end P cannot cannot_against no_rounding undecided memory (report.WriteFault f) end = absurd end
+    → (e : Report) → ComesToRelease settled (Err e) → P e
+by-end settled P cannot cannot_against no_rounding undecided memory (report.Cannot cell side multipliers) end = cannot cell side multipliers
+by-end settled P cannot cannot_against no_rounding undecided memory (report.CannotAgainst row cell side multipliers) end = cannot_against row cell side multipliers
+by-end settled P cannot cannot_against no_rounding undecided memory report.NoRounding end = no_rounding
+by-end settled P cannot cannot_against no_rounding undecided memory (report.Undecided why repairs shown against) end = undecided why repairs shown against
+by-end settled P cannot cannot_against no_rounding undecided memory report.Memory end = memory
+by-end settled P cannot cannot_against no_rounding undecided memory other end = absurd end
 
-pub end-stops : (e : Report) → IsEndWithoutRelease e → StopsRelease e
-end-stops e end = by-end StopsRelease (λ cell side multipliers. tt) (λ row cell side multipliers. tt) tt (λ why repairs shown against. tt) tt e end
+pub end-stops : (settled : SettledInputs) (e : Report) → ComesToRelease settled (Err e) → StopsRelease e
+end-stops settled e end = by-end settled StopsRelease (λ cell side multipliers. tt) (λ row cell side multipliers. tt) tt (λ why repairs shown against. tt) tt e end
 
-pub end-leaves : (e : Report) (outcome : Result SettledInputs Fault) (tray : TrayState) → IsEndWithoutRelease e → LeavesTray e outcome tray tray
-end-leaves e outcome tray end =
-    by-end (λ (one : Report). LeavesTray one outcome tray tray) (λ cell side multipliers. tt) (λ row cell side multipliers. tt) tt (λ why repairs shown against. tt) (inl refl) e end
+-- it says of the settled inputs what is so
+pub end-agrees : (settled : SettledInputs) (e : Report) → ComesToRelease settled (Err e) → AgreesWith IsReleaseEnd e (Ok settled)
+end-agrees settled (report.Cannot cell side multipliers) end = end
+end-agrees settled (report.CannotAgainst row cell side multipliers) end = end
+end-agrees settled report.NoRounding end = end
+end-agrees settled (report.Undecided why repairs shown against) end = end
+end-agrees settled report.Memory end = tt
+end-agrees settled other end = absurd end
 
-pub end-leaves-all : (e : Report) (tray : TrayState) → IsEndWithoutRelease e → LeavesAll e tray tray
-end-leaves-all e tray end = by-end (λ (one : Report). LeavesAll one tray tray) (λ cell side multipliers. refl) (λ row cell side multipliers. refl) refl (λ why repairs shown against. refl) tt e end
+pub end-leaves-all : (settled : SettledInputs) (e : Report) (tray : TrayState) → ComesToRelease settled (Err e) → LeavesAll e tray tray
+end-leaves-all settled e tray end = by-end settled (λ (one : Report). LeavesAll one tray tray) (λ cell side multipliers. refl) (λ row cell side multipliers. refl) refl (λ why repairs shown against. refl) tt e end
 
-pub end-puts-none : (e : Report) (tray : TrayState) → IsEndWithoutRelease e → PutsOnce e tray tray
-end-puts-none e tray end = by-end (λ (one : Report). PutsOnce one tray tray) (λ cell side multipliers. refl) (λ row cell side multipliers. refl) refl (λ why repairs shown against. refl) (inl refl) e end
+pub end-puts-none : (settled : SettledInputs) (P : Release → Type 0) (e : Report) (tray : TrayState) → ComesToRelease settled (Err e) → PutsReleaseWhere P e tray tray
+end-puts-none settled P e tray end =
+    by-end settled (λ (one : Report). PutsReleaseWhere P one tray tray) (λ cell side multipliers. refl) (λ row cell side multipliers. refl) refl (λ why repairs shown against. refl) (inl refl) e end
 
-pub end-cause : (e : Report) (old new : ShelfState) (tray : TrayState) → IsEndWithoutRelease e → FaultsHaveCauses e old new tray tray
-end-cause e old new tray end =
-    by-end (λ (one : Report). FaultsHaveCauses one old new tray tray) (λ cell side multipliers. no-fault _ old new tray tray refl (λ f is. absurd cc)) (λ row cell side multipliers. no-fault _ old new tray tray refl (λ f is. absurd cc))
+pub end-cause : (settled : SettledInputs) (e : Report) (old new : ShelfState) (tray : TrayState) → ComesToRelease settled (Err e) → FaultsHaveCauses e old new tray tray
+end-cause settled e old new tray end =
+    by-end settled (λ (one : Report). FaultsHaveCauses one old new tray tray) (λ cell side multipliers. no-fault _ old new tray tray refl (λ f is. absurd cc)) (λ row cell side multipliers. no-fault _ old new tray tray refl (λ f is. absurd cc))
     (no-fault _ old new tray tray refl (λ f is. absurd cc)) (λ why repairs shown against. no-fault _ old new tray tray refl (λ f is. absurd cc)) (no-memory old new tray tray) e end
 
-pub end-comes : (e : Report) (comes : FileRef → List ℕ → Type 0) (files : Files) (new : ShelfState) → IsEndWithoutRelease e → ReachedFile comes (reading_of e) files new
-end-comes e comes files new end =
-    by-end (λ (one : Report). ReachedFile comes (reading_of one) files new) (λ cell side multipliers. read-comes comes files new) (λ row cell side multipliers. read-comes comes files new)
+pub end-comes : (settled : SettledInputs) (e : Report) (comes : FileRef → List ℕ → Type 0) (files : Files) (new : ShelfState) → ComesToRelease settled (Err e) → ReachedFile comes (reading_of e) files new
+end-comes settled e comes files new end =
+    by-end settled (λ (one : Report). ReachedFile comes (reading_of one) files new) (λ cell side multipliers. read-comes comes files new) (λ row cell side multipliers. read-comes comes files new)
     (read-comes comes files new) (λ why repairs shown against. read-comes comes files new) (memory-comes comes files new) e end
 
 -- ---- what stopped the puts came after whole inputs
@@ -161,26 +184,21 @@ pub puts-stop : (e : Stop FileRef) → StopsRelease (puts_report e)
 puts-stop (puts.Fault f) = tt
 puts-stop puts.Memory = tt
 
-pub puts-meet : (e : Stop FileRef) (outcome : Result SettledInputs Fault) (settled : SettledInputs) → outcome ≡ Ok settled → AgreesWith (puts_report e) outcome
-puts-meet (puts.Fault f) outcome settled is = rw is refl
-puts-meet puts.Memory outcome settled is = tt
+pub puts-agree : (e : Stop FileRef) (outcome : Result SettledInputs Fault) (settled : SettledInputs) → outcome ≡ Ok settled → AgreesWith IsReleaseEnd (puts_report e) outcome
+puts-agree (puts.Fault f) outcome settled is = rw is tt
+puts-agree puts.Memory outcome settled is = tt
 
-pub puts-leave : (e : Stop FileRef) (outcome : Result SettledInputs Fault) (settled : SettledInputs) (r : Release) (old new : TrayState) → outcome ≡ Ok settled → IsReleaseOf settled r
-    → ((f : FileRef) → IsErrOf {T = Unit {0}} (Err e) (puts.Fault f) → OneInPart r.puts f old new) → (IsErrOf {T = Unit {0}} (Err e) puts.Memory → SomeWhole r.puts old new) → LeavesTray (puts_report e) outcome old new
-puts-leave (puts.Fault f) outcome settled r old new is made part whole = rw is (r, made, part f refl)
-puts-leave puts.Memory outcome settled r old new is made part whole = inr (rw is (r, made, whole refl))
-
-pub puts-once : (e : Stop FileRef) (r : Release) (old new : TrayState) → IsSomeRelease r → ((f : FileRef) → IsErrOf {T = Unit {0}} (Err e) (puts.Fault f) → OneInPart r.puts f old new) → (IsErrOf {T = Unit {0}} (Err e) puts.Memory → SomeWhole r.puts old new)
-    → PutsOnce (puts_report e) old new
-puts-once (puts.Fault f) r old new some part whole = (r, some, part f refl)
-puts-once puts.Memory r old new some part whole = inr (r, some, whole refl)
+pub puts-put : (P : Release → Type 0) (e : Stop FileRef) (r : Release) (old new : TrayState) → P r → ((f : FileRef) → IsErrOf {T = Unit {0}} (Err e) (puts.Fault f) → OneInPart r.puts f old new) → (IsErrOf {T = Unit {0}} (Err e) puts.Memory → SomeWhole r.puts old new)
+    → PutsReleaseWhere P (puts_report e) old new
+puts-put P (puts.Fault f) r old new some part whole = (r, some, part f refl)
+puts-put P puts.Memory r old new some part whole = inr (r, some, whole refl)
 
 pub puts-leave-all : (e : Stop FileRef) (old new : TrayState) → LeavesAll (puts_report e) old new
 puts-leave-all (puts.Fault f) old new = tt
 puts-leave-all puts.Memory old new = tt
 
 pub puts-cause : (e : Stop FileRef) (old new : ShelfState) (before after : TrayState) → ((f : FileRef) → IsErrOf {T = Unit {0}} (Err e) (puts.Fault f) → HasRisen before.faults after.faults) → FaultsHaveCauses (puts_report e) old new before after
-puts-cause (puts.Fault g) old new before after cause = record { reading = read-cause old new; write_fault = λ f is. cause g refl }
+puts-cause (puts.Fault g) old new before after cause = failed-cause g old new before after (cause g refl)
 puts-cause puts.Memory old new before after cause = no-memory old new before after
 
 pub puts-come : (e : Stop FileRef) (comes : FileRef → List ℕ → Type 0) (files : Files) (new : ShelfState) → ReachedFile comes (reading_of (puts_report e)) files new

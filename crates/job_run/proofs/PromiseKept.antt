@@ -73,9 +73,9 @@ use Rattle.job_run.specs.Promise.{AreRounded, AreTablesBy, AreTablesOf, CantBeGu
 use Rattle.job_run.specs.Protections.{IsProtectionFor, IsSuppressedRelease}
 use Rattle.job_run.specs.Puts.{AllWhole, Put}
 use Rattle.job_run.specs.PutReleases.{Releases}
-use Rattle.job_run.specs.ReleaseRuns.{IsReleaseRunOf}
+use Rattle.job_run.specs.CommandRuns.{AgreesWith}
+use Rattle.job_run.specs.ReleaseRuns.{IsReleaseEnd, IsReleaseRunOf}
 use Rattle.job_run.specs.Releases.{puts_of, shown_in, tables_from, value_in}
-use Rattle.job_run.specs.Reports.{AgreesWith}
 use Rattle.job_run.specs.Roundings.{HasNoRounding, IsReleaseOfRounding, IsRoundingFor, IsSystemIn, job_base, rounded_certificate, truths_in}
 use Rattle.job_run.specs.declared.put.Release.{Release}
 use Rattle.job_run.specs.declared.report.Report.{Report}
@@ -471,9 +471,9 @@ true-by P Says files name more (Err why) is known = known
 
 pub promise-kept : (name : List ℕ) (answer : Report) (old new : ShelfState) (before after : TrayState) → IsReleaseRunOf name answer old new before after
     → WhereTold old.files (λ fs. WhereTold after.files (λ out. IsPromiseOf answer (settled_of purpose.Release fs name) out))
-promise-kept name answer old new before after is fs held out told = by answer refl (is.told fs held)
+promise-kept name answer old new before after is fs held out told = by answer refl (is.run.told fs held)
   where
-    by : (one : Report) → answer ≡ one → AgreesWith one (settled_of purpose.Release fs name) → IsPromiseOf one (settled_of purpose.Release fs name) out
+    by : (one : Report) → answer ≡ one → AgreesWith IsReleaseEnd one (settled_of purpose.Release fs name) → IsPromiseOf one (settled_of purpose.Release fs name) out
     by (report.Released summary) same agrees = promised-tables fs out name summary before after (is.released fs held summary same) told
     by (report.Cannot number side multipliers) same agrees =
         true-by (λ settled. IsProtectionFor settled (protection.Cannot (record { cell = number; side = side; multipliers = multipliers }))) (λ settled. CantBeProtected settled number side) fs name
@@ -483,16 +483,4 @@ promise-kept name answer old new before after is fs held out told = by answer re
         (λ settled are has. cant-guard fs settled row number side multipliers are has) (settled_of purpose.Release fs name) refl agrees
     by report.NoRounding same agrees =
         true-by HasNoRounding CantBeRounded fs name (λ settled are has. cant-round settled has) (settled_of purpose.Release fs name) refl agrees
-    by report.Accepted same agrees = tt
-    by (report.Intervals number) same agrees = tt
-    by (report.Audited primary exposed) same agrees = tt
-    by (report.Demo demo) same agrees = tt
-    by report.Migrated same agrees = tt
-    by report.Usage same agrees = tt
-    by (report.Refused reason) same agrees = tt
-    by (report.NotAccepted why) same agrees = tt
-    by (report.NotGuarded why) same agrees = tt
-    by (report.Undecided why repairs shown against) same agrees = tt
-    by (report.ReadFault f) same agrees = tt
-    by (report.WriteFault f) same agrees = tt
-    by report.Memory same agrees = tt
+    by other same agrees = tt

@@ -42,14 +42,13 @@ use Rattle.job_inputs.specs.declared.settled.ClassifiedJob.{ClassifiedJob}
 use Rattle.relations.specs.Holding.{IsSystemOf}
 use Rattle.relations.specs.TableSigns.{HaveSigns, IsOneOrTwoWay}
 use Rattle.relations.proofs.SignedTables.{one_or_two_way_has_signs}
-use Rattle.job_run.specs.Endings.{IsHidingRelease, IsReleaseBy, StopsShort}
+use Rattle.job_run.specs.Endings.{ComesToRelease, IsHidingRelease, IsReleaseBy, StopsShort}
 use Rattle.job_run.specs.Protections.{IsProtectionFor, IsSuppressedRelease}
 use Rattle.job_run.specs.Releases.{summary_of}
 use Rattle.job_run.specs.Roundings.{job_base}
 use Rattle.job_run.specs.declared.put.Release.{Release}
 use Rattle.job_run.specs.declared.report.Summary.{Summary}
 use Rattle.job_run.specs.Reporting.{stuck_report, stopped_report}
-use Rattle.job_run.specs.Reports.{ComesToRelease}
 
 -- a job has the base of its settled inputs, if it has one
 pub same-base : (settled : SettledInputs) (job : ClassifiedJob) → IsSettledOf settled job → job_base settled.inputs.described ≡ job_base job.described
@@ -81,10 +80,10 @@ protection-for settled job system protection hides is_job is_book is_system is =
 -- a question that stopped short stops the run
 pub stuck-comes : (settled : SettledInputs) (fault : AskFault) (repairs : List Refuted) (shown : List ℕ) (against : Option Against) → StopsShort settled fault repairs shown against
     → ComesToRelease settled (Err (stuck_report fault repairs shown against))
-stuck-comes settled (ask.Work walk) repairs shown against is = (tt, is)
-stuck-comes settled (ask.Wide walk place) repairs shown against is = (tt, is)
-stuck-comes settled (ask.Size question hidden) repairs shown against is = (tt, is)
-stuck-comes settled ask.Memory repairs shown against is = (tt, tt)
+stuck-comes settled (ask.Work walk) repairs shown against is = is
+stuck-comes settled (ask.Wide walk place) repairs shown against is = is
+stuck-comes settled (ask.Size question hidden) repairs shown against is = is
+stuck-comes settled ask.Memory repairs shown against is = tt
 
 -- a protection that stopped short stops the run
 pub stopped-comes : (settled : SettledInputs) (stopped : Stopped) → IsProtectionFor settled (protection.Undecided stopped) → ComesToRelease settled (Err (stopped_report stopped))

@@ -35,11 +35,10 @@ use Rattle.job_inputs.specs.ClassifiedJobs.{SettledInputs, IsSettledOf}
 use Rattle.job_inputs.specs.declared.described.DescribedJob.{DescribedJob}
 use Rattle.job_inputs.specs.declared.settled.ClassifiedJob.{ClassifiedJob}
 use Rattle.job_run.specs.Books.{CanBeReleased}
-use Rattle.job_run.specs.Endings.{IsReleaseBy}
+use Rattle.job_run.specs.Endings.{ComesToRelease, IsReleaseBy}
 use Rattle.job_run.specs.Releases.{puts_of, summary_of, value_in}
 use Rattle.job_run.specs.Roundings.{job_base, truths_in, HasNoRounding, IsAlwaysRounded, IsSystemIn, SearchStops, rounded_certificate}
 use Rattle.job_run.specs.Reporting.{search_report}
-use Rattle.job_run.specs.Reports.{ComesToRelease}
 use Rattle.job_run.specs.declared.put.Release.{Release}
 use Rattle.job_run.proofs.Bases.{base-within}
 use Rattle.job_run.proofs.JobTruths.{are-bare, are-coded, are-truths, holds-on, truths-are}
@@ -161,12 +160,12 @@ pub search-comes : (settled : SettledInputs) (job : ClassifiedJob) (system : Sys
     → IsBook job.book → ((signs : List Bool) → AreSigns system.relations signs → fault ≡ round.Memory)
     → ComesToRelease settled (Err (search_report fault))
 search-comes settled job system base truths round.NoRounding task none limit is_book signed =
-    (tt, no-rounding settled job system base truths task (none refl) (other-tables settled job system base truths round.NoRounding task is_book signed (λ is. absurd cc)))
+    no-rounding settled job system base truths task (none refl) (other-tables settled job system base truths round.NoRounding task is_book signed (λ is. absurd cc))
 search-comes settled job system base truths (round.Nodes nodes) task none limit is_book signed =
     let stops = limit nodes refl in
     let more = other-tables settled job system base truths (round.Nodes nodes) task is_book signed (λ is. absurd cc) in
-    (tt, (search-stops settled job system base truths nodes task stops.0 stops.1 more, refl, refl, refl))
-search-comes settled job system base truths round.Memory task none limit is_book signed = (tt, tt)
+    (search-stops settled job system base truths nodes task stops.0 stops.1 more, refl, refl, refl)
+search-comes settled job system base truths round.Memory task none limit is_book signed = tt
 
 -- ---- the release
 

@@ -15,7 +15,7 @@ use Rattle.job_inputs.specs.declared.file_ref.FileRef.{FileRef}
 use Rattle.job_inputs.specs.declared.inputs.Inputs.{Inputs}
 use Rattle.job_inputs.specs.declared.purpose.Purpose.TheVariants as purpose
 use Rattle.sdc_base.specs.Records.{Name}
-use Rattle.job_run.specs.Endings.{IsHidingRelease, IsReleaseBy}
+use Rattle.job_run.specs.Endings.{IsHidingRelease, IsReleaseBy, IsReleaseOf}
 use Rattle.job_run.specs.GuardedReleases.{guarded_puts}
 use Rattle.job_run.specs.Puts.{put_all, AllWhole, IsInPart, OneInPart}
 use Rattle.job_run.specs.Releases.{tables_from, shown_in, value_in}
@@ -135,11 +135,12 @@ second_runs_complete files name summary before between after runs =
       released,
       λ settled other read none.
           let again : settled_of purpose.Release files name ≡ Ok settled = read in
-          let left = ok-and _ (settled_of purpose.Release files name) (runs.first.left files runs.first_files) in
-          let first-is : left.0 ≡ settled = ok-same (sym left.1 ∙ again) in
+          let left = runs.first.run.left files runs.first_files in
+          let first = ok-and (λ one. IsReleaseOf one left.0) (settled_of purpose.Release files name) left.1 in
+          let first-is : first.0 ≡ settled = ok-same (sym first.1 ∙ again) in
           let second-is : released.settled ≡ settled = ok-same (sym released.read ∙ again) in
           let none-first = subst (λ (s : SettledInputs). is_put_by s.inputs.described.job other ≡ false) (sym first-is) none in
           let none-second = subst (λ (s : SettledInputs). is_put_by s.inputs.described.job other ≡ false) (sym second-is) none in
           whole-others other released.release.puts between after (release-others other released.settled released.release (job_base released.settled.inputs.described) none-second released.is_release) released.put
-          ∙ part-others other left.2.0.puts runs.file before between (release-others other left.0 left.2.0 (job_base left.0.inputs.described) none-first left.2.1) left.2.2,
+          ∙ part-others other left.0.puts runs.file before between (release-others other first.0 left.0 (job_base first.0.inputs.described) none-first first.2) left.2,
     )

@@ -4,13 +4,14 @@ pub mod Laws
 pub mod Protections
 pub mod GuardedReleases
 pub mod FileCounts
+pub mod Reports
+pub mod CommandRuns
 pub mod Endings
 pub mod Reporting
 pub mod Books
 pub mod Commands
 pub mod Puts
 pub mod Promise
-pub mod Reports
 pub mod PutReleases
 pub mod ReleaseRuns
 pub mod Checks

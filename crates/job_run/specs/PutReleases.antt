@@ -55,12 +55,13 @@ pub record IsSomeRelease (release : Release) : Type 0 where
   pub is_release : IsReleaseOf settled release
   pub one_each : length release.puts ≡ file_count settled.inputs.described.job
 
--- What was put: a release with these numbers whole, or a part of one, or nothing. No file was put twice.
-abbrev pub PutsOnce : Report → TrayState → TrayState → Type 0
-PutsOnce (report.Released summary) old new =
-    (release : Release) × IsSomeRelease release × (release.summary ≡ summary) × AllWhole release.puts old new
-PutsOnce (report.WriteFault file) old new =
-    (release : Release) × IsSomeRelease release × OneInPart release.puts file old new
-PutsOnce report.Memory old new =
-    (new ≡ old) ⊎ ((release : Release) × IsSomeRelease release × SomeWhole release.puts old new)
-PutsOnce other old new = new ≡ old
+-- What was put of a release of which this holds: it whole, with these numbers, or a part of it, or nothing. No file was
+-- put twice.
+abbrev pub PutsReleaseWhere : (Release → Type 0) → Report → TrayState → TrayState → Type 0
+PutsReleaseWhere Holds (report.Released summary) old new =
+    (release : Release) × Holds release × (release.summary ≡ summary) × AllWhole release.puts old new
+PutsReleaseWhere Holds (report.WriteFault file) old new =
+    (release : Release) × Holds release × OneInPart release.puts file old new
+PutsReleaseWhere Holds report.Memory old new =
+    (new ≡ old) ⊎ ((release : Release) × Holds release × SomeWhole release.puts old new)
+PutsReleaseWhere Holds other old new = new ≡ old

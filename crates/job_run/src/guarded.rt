@@ -3,11 +3,11 @@ ghost use Rattle.certificate.specs.Spelling.{IsSpellable};
 ghost use Rattle.contributor_protection.specs.Guards.{case_of, IsCertified};
 ghost use Rattle.job_inputs.specs.ClassifiedJobs.{IsReadyJob, IsSettledOf, SettledInputs};
 ghost use Rattle.job_run.specs.Books.{CanBeReleased, IsPlannedBook, job_of};
+ghost use Rattle.job_run.specs.Endings.{ComesToRelease, JobComesToRelease};
 ghost use Rattle.job_run.specs.FileCounts.{file_count};
 ghost use Rattle.job_run.specs.GuardedReleases as releases;
 ghost use Rattle.job_run.specs.Protections.{IsProtectedJob};
 ghost use Rattle.job_run.specs.Releases.{summary_of};
-ghost use Rattle.job_run.specs.Reports.{ComesToRelease, JobComesToRelease};
 ghost use Rattle.job_run.specs.Roundings as roundings;
 
 use crate::guarded_texts::guarded_puts;

@@ -11,9 +11,9 @@ ghost use Rattle.job_inputs.specs.SoundJobs.{IsSoundJob};
 ghost use Rattle.job_inputs.specs.TabulatedBooks.{IsBookOf, IsReadyFor};
 ghost use Rattle.job_inputs.specs.declared.inputs.Inputs.{Inputs as AnyInputs};
 ghost use Rattle.job_run.specs.Books.{CanBeReleased, IsHidingBook, job_of};
+ghost use Rattle.job_run.specs.Endings.{ComesToRelease, JobComesToRelease};
 ghost use Rattle.job_run.specs.FileCounts.{file_count};
 ghost use Rattle.job_run.specs.Releases.{puts_of, shown_in};
-ghost use Rattle.job_run.specs.Reports.{ComesToRelease, JobComesToRelease};
 ghost use Rattle.job_run.specs.Roundings as roundings;
 
 use crate::guarded::guarded_release;

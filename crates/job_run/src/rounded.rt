@@ -2,7 +2,7 @@ ghost use Rattle.std.specs.Prelude.{◌≡◌, ◌+◌, Some, IfOk, length, map}
 ghost use Rattle.certificate.specs.Laws.{without_hidden_cells};
 ghost use Rattle.job_inputs.specs.ClassifiedJobs.{IsSettledOf, SettledInputs};
 ghost use Rattle.job_run.specs.Books.{CanBeReleased};
-ghost use Rattle.job_run.specs.Reports.{ComesToRelease};
+ghost use Rattle.job_run.specs.Endings.{ComesToRelease};
 ghost use Rattle.job_run.specs.Roundings as roundings;
 
 use crate::numbers::unhidden_summary;

@@ -9,10 +9,10 @@ ghost use Rattle.job_run.specs.Commands.{AreUsage};
 ghost use Rattle.job_run.specs.Demos.{IsDemoRunOf};
 ghost use Rattle.job_run.specs.IntervalRuns.{IsIntervalRunOf};
 ghost use Rattle.job_run.specs.Migrations.{IsMigrationOf};
-ghost use Rattle.job_run.specs.ReleaseRuns.{IsReleaseRunOf};
+ghost use Rattle.job_run.specs.ReleaseRuns.{IsReleaseRunOf, StopsRelease, report_of};
 ghost use Rattle.job_run.specs.Promise.{IsPromiseOf};
 ghost use Rattle.job_run.specs.PutReleases.{HasReleased};
-ghost use Rattle.job_run.specs.Reports.{FaultsHaveCauses, LeavesAll, StopsRelease, report_of};
+ghost use Rattle.job_run.specs.Reports.{FaultsHaveCauses, LeavesAll};
 
 use crate::audit_run::put_audit;
 use crate::check_run::check_job;

@@ -29,6 +29,7 @@ use Rattle.job_lang.specs.declared.job.TableLine.{TableLine}
 use Rattle.linked_tables.specs.BookViews.{BookView}
 use Rattle.linked_tables.specs.BookCells.{number_of}
 use Rattle.office_io.specs.Files.{Files}
+use Rattle.office_io.specs.Trays.{TrayState}
 use Rattle.sdc_base.specs.HiddenSets.{hide_cells}
 use Rattle.release_writer.specs.ReadingLaws.{AreTexts}
 use Rattle.release_writer.specs.ShownCells.{open_truth}
@@ -58,7 +59,8 @@ use Rattle.job_run.proofs.PutFiles.{AreHeld, all-held, guarded-names, names, no-
 use Rattle.job_run.proofs.SameBook.{still-book}
 use Rattle.job_run.proofs.Showing.{hidden-shown, values-shown}
 use Rattle.job_run.proofs.TableSteps.{as-many}
-use Rattle.job_run.specs.Checks.{MeetsCheck, SettlesCheck}
+use Rattle.job_run.specs.Checks.{IsCheckEnd}
+use Rattle.job_run.specs.CommandRuns.{IsAnswer, Settles}
 use Rattle.job_run.specs.Endings.{IsHidingRelease, IsReleaseBy}
 use Rattle.job_run.specs.GuardedReleases.{IsGuardedRelease, guarded_puts}
 use Rattle.job_run.specs.Protections.{IsSuppressedRelease}
@@ -325,24 +327,13 @@ passes-no-fault None released (check.NotGuarded why) is passes = is
 passes-no-fault None released (check.Inputs why) is passes = is
 passes-no-fault (Some extra) released why is passes = let both : ◌≡◌ {A = Result (Unit {0}) CheckStop} (Err why) (Ok tt) = sym is.first ∙ passes is.case is.soles is.is_case is.fits is.are_soles in absurd cc
 
-conclude : (answer : Report) (released : ReleasedFiles) → MeetsCheck answer (Ok released) → SettlesCheck answer (Ok released) → HasNoFault released → (answer ≡ report.Accepted) ⊎ (answer ≡ report.Memory)
-conclude report.Accepted released meets ends passes = inl refl
-conclude report.Memory released meets ends passes = inr refl
-conclude (report.NotAccepted why) released meets ends passes = absurd (passes-no-fault released.extra released (check.NotAccepted why) meets passes)
-conclude (report.NotGuarded why) released meets ends passes = absurd (passes-no-fault released.extra released (check.NotGuarded why) meets passes)
-conclude (report.Refused reason) released meets ends passes = absurd ends
-conclude (report.ReadFault f) released meets ends passes = absurd ends
-conclude (report.Released s) released meets ends passes = absurd meets
-conclude (report.Intervals n) released meets ends passes = absurd meets
-conclude (report.Audited n m) released meets ends passes = absurd meets
-conclude (report.Demo demo) released meets ends passes = absurd meets
-conclude report.Migrated released meets ends passes = absurd meets
-conclude report.Usage released meets ends passes = absurd meets
-conclude (report.Cannot cell side multipliers) released meets ends passes = absurd meets
-conclude report.NoRounding released meets ends passes = absurd meets
-conclude (report.CannotAgainst row cell side multipliers) released meets ends passes = absurd meets
-conclude (report.Undecided why repairs shown against) released meets ends passes = absurd meets
-conclude (report.WriteFault f) released meets ends passes = absurd meets
+conclude : (answer : Report) (released : ReleasedFiles) (before after : TrayState) → IsAnswer IsCheckEnd answer → Settles IsCheckEnd answer (Ok released) before after → HasNoFault released → (answer ≡ report.Accepted) ⊎ (answer ≡ report.Memory)
+conclude report.Accepted released before after answers ends passes = inl refl
+conclude report.Memory released before after answers ends passes = inr refl
+conclude (report.NotAccepted why) released before after answers ends passes = absurd (passes-no-fault released.extra released (check.NotAccepted why) ends passes)
+conclude (report.NotGuarded why) released before after answers ends passes = absurd (passes-no-fault released.extra released (check.NotGuarded why) ends passes)
+conclude (report.WriteFault f) released before after answers ends passes = absurd answers
+conclude other released before after answers ends passes = absurd ends
 
 pub runs-are-accepted : PutsDiffer → WrittenIsAccepted → GuardingIsAccepted → WrittenRoundingIsAccepted → RunsAreAccepted
 runs-are-accepted differ written guarded rounded files out held name summary answer runs hold =
@@ -359,8 +350,8 @@ runs-are-accepted differ written guarded rounded files out held name summary ans
       puts = subst (λ (s : SettledInputs). AllByRecursion (λ (put : List ℕ). held put ≡ out put) (names_put s.inputs.described.job)) same hold.puts;
       short = subst (λ (s : SettledInputs). AllByRecursion (λ (put : List ℕ). IsShort (out put)) (names_put s.inputs.described.job)) same hold.short;
     }) before.1 in
-    conclude answer read.released (subst (λ (o : Result ReleasedFiles Fault). MeetsCheck answer o) read.is (runs.check.told held runs.check_files))
-    (subst (λ (o : Result ReleasedFiles Fault). SettlesCheck answer o) read.is (runs.check.complete held runs.check_files runs.no_fault)) read.passes
+    conclude answer read.released runs.beside runs.left runs.check.run.answers
+    (subst (λ (o : Result ReleasedFiles Fault). Settles IsCheckEnd answer o runs.beside runs.left) read.is (runs.check.run.complete held runs.check_files runs.no_fault)) read.passes
 
 pub puts-are-accepted : PutsAreNotRead → PutsAreNotNamed → RunsAreAccepted → PutsAreAccepted
 puts-are-accepted not_read not_named accepted files out held name summary answer runs hold =

@@ -44,11 +44,9 @@ returns-in-Protected-clause-comes c = λ records skipped settled is numbers.
     }) numbers
 
 pub returns-in-Cannot-clause-comes : goal.returns-in-Cannot-clause-comes
-returns-in-Cannot-clause-comes c = λ records skipped settled is numbers. (
-  tt,
-  outcome-for settled (job_of c.args.described.now c.args.book.now c.args.cells.now c.args.rows.now records skipped) c.in_ok-system.system c.args.cells.now c.in_ok-protection.protection (protection.Cannot c.in-Cannot.unprotected) c.requires.hides is c.cells-known.ensures.book
-      (record { cells = c.in_ok-system.ensures.cells; relations = c.in_ok-system.ensures.exact }) refl c.in-Cannot.is c.in_ok-protection.ensures.outcome,
-)
+returns-in-Cannot-clause-comes c = λ records skipped settled is numbers.
+    outcome-for settled (job_of c.args.described.now c.args.book.now c.args.cells.now c.args.rows.now records skipped) c.in_ok-system.system c.args.cells.now c.in_ok-protection.protection (protection.Cannot c.in-Cannot.unprotected) c.requires.hides is c.cells-known.ensures.book
+    (record { cells = c.in_ok-system.ensures.cells; relations = c.in_ok-system.ensures.exact }) refl c.in-Cannot.is c.in_ok-protection.ensures.outcome
 
 pub returns-in-Undecided-clause-comes : goal.returns-in-Undecided-clause-comes
 returns-in-Undecided-clause-comes c = λ records skipped settled is numbers.

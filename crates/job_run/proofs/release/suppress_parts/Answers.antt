@@ -46,11 +46,9 @@ returns-in-Protected-clause-comes c = λ rows records skipped settled is numbers
 
 pub returns-in-Cannot-clause-comes : goal.returns-in-Cannot-clause-comes
 returns-in-Cannot-clause-comes c = λ rows records skipped settled is numbers.
-    let job = job_of c.args.described.now c.args.book.now c.args.cells.now rows records skipped in (
-      tt,
-      outcome-for settled job c.in_ok-system.system c.args.cells.now c.in_ok-protection.protection (protection.Cannot c.in-Cannot.unprotected) c.requires.hides is c.cells-known.ensures.book
-          (record { cells = c.in_ok-system.ensures.cells; relations = c.in_ok-system.ensures.exact }) refl c.in-Cannot.is c.in_ok-protection.ensures.outcome,
-    )
+    let job = job_of c.args.described.now c.args.book.now c.args.cells.now rows records skipped in
+    outcome-for settled job c.in_ok-system.system c.args.cells.now c.in_ok-protection.protection (protection.Cannot c.in-Cannot.unprotected) c.requires.hides is c.cells-known.ensures.book
+    (record { cells = c.in_ok-system.ensures.cells; relations = c.in_ok-system.ensures.exact }) refl c.in-Cannot.is c.in_ok-protection.ensures.outcome
 
 pub returns-clause-comes : goal.returns-clause-comes
 returns-clause-comes c = λ rows records skipped settled is numbers.

@@ -55,19 +55,19 @@ pub returns-in_err-release-clause-untouched : goal.returns-in_err-release-clause
 returns-in_err-release-clause-untouched g c =
     let p = err_from_is_err_and c.from_residual-in_err-release.result c.from_residual-in_err-release.ensures.1 in
     let some = c.in_ok-settled.ensures.settled in
-    rw (p.1, p.2) (end-leaves-all c.in_err-release.field-0.0 _ (c.in_err-release.ensures.comes some.0 some.1).0)
+    rw (p.1, p.2) (end-leaves-all some.0 c.in_err-release.field-0.0 _ (c.in_err-release.ensures.comes some.0 some.1))
 
 pub returns-in_err-release-clause-cause : goal.returns-in_err-release-clause-cause
 returns-in_err-release-clause-cause g c =
     let p = err_from_is_err_and c.from_residual-in_err-release.result c.from_residual-in_err-release.ensures.1 in
     let some = c.in_ok-settled.ensures.settled in
-    rw (p.1, p.2) (end-cause c.in_err-release.field-0.0 _ _ _ (c.in_err-release.ensures.comes some.0 some.1).0)
+    rw (p.1, p.2) (end-cause some.0 c.in_err-release.field-0.0 _ _ _ (c.in_err-release.ensures.comes some.0 some.1))
 
 pub returns-in_err-release-clause-stops : goal.returns-in_err-release-clause-stops
 returns-in_err-release-clause-stops g c =
     let p = err_from_is_err_and c.from_residual-in_err-release.result c.from_residual-in_err-release.ensures.1 in
     let some = c.in_ok-settled.ensures.settled in
-    rw (p.1, p.2) (end-stops c.in_err-release.field-0.0 (c.in_err-release.ensures.comes some.0 some.1).0)
+    rw (p.1, p.2) (end-stops some.0 c.in_err-release.field-0.0 (c.in_err-release.ensures.comes some.0 some.1))
 
 -- ---- the puts
 
