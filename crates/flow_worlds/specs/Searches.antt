@@ -48,6 +48,12 @@ StaysAt task moves forward inside point =
     (cell : ℕ) → cell < length task.arcs.now → is_hidden task.flags.now cell ≡ true
     → Touches (arc_at task.arcs.now cell) point → StaysOver task moves forward inside point cell
 
+-- a hidden cell whose arc touches the point
+pub record IsHiddenCellAt (task : Task) (point cell : ℕ) : Type 0 where
+  pub known : cell < length task.arcs.now
+  pub hidden : is_hidden task.flags.now cell ≡ true
+  pub touches : Touches (arc_at task.arcs.now cell) point
+
 -- open steps over hidden cells other than the asked one don't leave the set
 abbrev pub IsClosed : Task → List ℤ → Bool → (ℕ → Bool) → Type 0
 IsClosed task moves forward inside = (point : ℕ) → inside point ≡ true → StaysAt task moves forward inside point

@@ -1,10 +1,7 @@
 ghost use Rattle.std.specs.Prelude.{◌≡◌, ◌<◌, ℕ, length, true, false, IfOk, OnOk};
-ghost use Rattle.sdc_base.specs.HiddenSets.{is_hidden};
-ghost use Rattle.signed_network.specs.Arcs.{arc_at};
-ghost use Rattle.signed_network.specs.Networks.{Touches};
 ghost use Rattle.flow_worlds.specs.Steps as steps_specs;
 ghost use Rattle.flow_worlds.specs.Searches as spec;
-ghost use Rattle.flow_worlds.specs.Searches.{IsOpenStep, IsSearchOf, IsGone, Grows, StaysAt, StaysOver, first_step, is_reached, visited};
+ghost use Rattle.flow_worlds.specs.Searches.{IsHiddenCellAt, IsOpenStep, IsSearchOf, IsGone, Grows, StaysAt, StaysOver, first_step, is_reached, visited};
 ghost use Rattle.flow_worlds.specs.Tasks.{IsTask};
 
 use crate::rooms::has_room;
@@ -119,9 +116,7 @@ fn go_over(
     requires asked { (first_step search.old).cell ≡ task.now.asked.cell }
     requires search { IsSearchOf task.now moves.now forward (first_step search.old) search.old }
     requires place { place < length search.old.visits.items }
-    requires known { cell < length task.now.arcs.now }
-    requires hidden { is_hidden task.now.flags.now cell ≡ true }
-    requires touches { Touches (arc_at task.now.arcs.now cell) (visited search.old.visits.items place).end }
+    requires at_point { IsHiddenCellAt task.now (visited search.old.visits.items place).end cell }
     ensures search { OnOk result (IsSearchOf task.now moves.now forward (first_step search.old) search.new) }
     ensures grows { OnOk result (Grows search.old search.new) }
     ensures stays { OnOk result (StaysOver task.now moves.now forward (is_reached search.new.reached.items)

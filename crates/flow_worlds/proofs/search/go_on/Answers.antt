@@ -16,32 +16,14 @@ pub go_over-requires-clause-search : goal.go_over-requires-clause-search
 go_over-requires-clause-search c =
     subst (λ (first : Step). IsSearchOf c.args.task.now c.args.moves.now c.args.forward first c.cells.search) (sym c.cells.invariant.search.begins) c.cells.invariant.search
 
-pub go_over-requires-clause-known : goal.go_over-requires-clause-known
-go_over-requires-clause-known c =
+pub go_over-requires-clause-at_point : goal.go_over-requires-clause-at_point
+go_over-requires-clause-at_point c =
     let point : ℕ = (visited c.args.search.now.visits.items c.args.place).end in
     let at : c.index.result.now.step.end ≡ point = ap (λ (v : Visit). v.step.end) (read_visit c.args.search.now.visits.items c.args.place c.index.result.now c.requires.place c.index.ensures) in
     let inside : point < length c.args.task.now.touching.now = visit_end_within c.args.task.now c.args.moves.now c.args.forward (first_step c.args.search.now) c.args.search.now c.args.place c.requires.task c.requires.search c.requires.place in
     let cells : c.as_slice-cell-items.result.now ≡ cells_at c.args.task.now.touching.now point = read_cells c.args.task.now.touching.now c.index.result.now.step.end c.index-task-point.result c.as_slice-cell-items.result.now (omega (arith, at, inside)) c.index-task-point.is (c.as_slice-cell-items.ensures ∙ sym c.index-task-point.is) ∙ ap (λ (p : ℕ). cells_at c.args.task.now.touching.now p) at in
     let there = cell_there c.args.task.now point c.as_slice-cell-items.result.now c.cells.cell-index c.requires.task cells c.cells-test.true in
-    there.0
-
-pub go_over-requires-clause-hidden : goal.go_over-requires-clause-hidden
-go_over-requires-clause-hidden c =
-    let point : ℕ = (visited c.args.search.now.visits.items c.args.place).end in
-    let at : c.index.result.now.step.end ≡ point = ap (λ (v : Visit). v.step.end) (read_visit c.args.search.now.visits.items c.args.place c.index.result.now c.requires.place c.index.ensures) in
-    let inside : point < length c.args.task.now.touching.now = visit_end_within c.args.task.now c.args.moves.now c.args.forward (first_step c.args.search.now) c.args.search.now c.args.place c.requires.task c.requires.search c.requires.place in
-    let cells : c.as_slice-cell-items.result.now ≡ cells_at c.args.task.now.touching.now point = read_cells c.args.task.now.touching.now c.index.result.now.step.end c.index-task-point.result c.as_slice-cell-items.result.now (omega (arith, at, inside)) c.index-task-point.is (c.as_slice-cell-items.ensures ∙ sym c.index-task-point.is) ∙ ap (λ (p : ℕ). cells_at c.args.task.now.touching.now p) at in
-    let there = cell_there c.args.task.now point c.as_slice-cell-items.result.now c.cells.cell-index c.requires.task cells c.cells-test.true in
-    there.1
-
-pub go_over-requires-clause-touches : goal.go_over-requires-clause-touches
-go_over-requires-clause-touches c =
-    let point : ℕ = (visited c.args.search.now.visits.items c.args.place).end in
-    let at : c.index.result.now.step.end ≡ point = ap (λ (v : Visit). v.step.end) (read_visit c.args.search.now.visits.items c.args.place c.index.result.now c.requires.place c.index.ensures) in
-    let inside : point < length c.args.task.now.touching.now = visit_end_within c.args.task.now c.args.moves.now c.args.forward (first_step c.args.search.now) c.args.search.now c.args.place c.requires.task c.requires.search c.requires.place in
-    let cells : c.as_slice-cell-items.result.now ≡ cells_at c.args.task.now.touching.now point = read_cells c.args.task.now.touching.now c.index.result.now.step.end c.index-task-point.result c.as_slice-cell-items.result.now (omega (arith, at, inside)) c.index-task-point.is (c.as_slice-cell-items.ensures ∙ sym c.index-task-point.is) ∙ ap (λ (p : ℕ). cells_at c.args.task.now.touching.now p) at in
-    let there = cell_there c.args.task.now point c.as_slice-cell-items.result.now c.cells.cell-index c.requires.task cells c.cells-test.true in
-    subst (λ (v : Visit). Touches (arc_at c.args.task.now.arcs.now (get_or c.as_slice-cell-items.result.now c.cells.cell-index 0)) v.step.end) (sym (c.cells.invariant.grows.same c.args.place c.requires.place)) there.2
+    record { known = there.0; hidden = there.1; touches = subst (λ (v : Visit). Touches (arc_at c.args.task.now.arcs.now (get_or c.as_slice-cell-items.result.now c.cells.cell-index 0)) v.step.end) (sym (c.cells.invariant.grows.same c.args.place c.requires.place)) there.2 }
 
 pub cells-preserved : goal.cells-preserved
 cells-preserved c =
