@@ -33,6 +33,7 @@ mod WholeAnswers
 mod WholeEnds
 mod EndCauses
 mod WalkAnswers
+mod Outcomes
 mod Selecting
 mod SmallerProblems
 mod SmallerMultipliers

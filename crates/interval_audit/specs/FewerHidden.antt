@@ -1,5 +1,5 @@
 -- What tables of a question's problem say of the same question with fewer hidden cells (own).
-use Rattle.std.specs.Prelude.{◌≡◌, ℕ, ◌*◌, ◌/◌, Bool, true, List, slice_index, FitsSigned, ◌*ℤ◌}
+use Rattle.std.specs.Prelude.{◌≡◌, ℕ, ◌/◌, Bool, true, List, slice_index, FitsSigned, ◌*ℤ◌}
 use Rattle.std.specs.Int.{w128}
 use Rattle.sdc_base.specs.declared.cell.Cell.{Cell}
 use Rattle.sdc_base.specs.declared.relation.Relation.{Relation}

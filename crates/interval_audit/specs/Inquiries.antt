@@ -1,5 +1,5 @@
 -- What holds of a question with what it is asked of: its problem, its answers, and why it has none (own).
-use Rattle.std.specs.Prelude.{ℕ, ℤ, List}
+use Rattle.std.specs.Prelude.{ℕ, ◌≤◌, ℤ, List, Result, IfOk, IfErr}
 use Rattle.sdc_base.specs.Forms.{coefficient}
 use Rattle.sdc_base.specs.Refutations.{AreBounded}
 use Rattle.tableau.specs.Readings.{values_of}
@@ -17,7 +17,7 @@ use Rattle.interval_audit.specs.Problems.{problem_of}
 use Rattle.interval_audit.specs.Readings.{IsWorldOf, AreMultipliersOf}
 use Rattle.interval_audit.specs.Answers.{IsTrueAnswer, IsReadOff, IsWalkAnswerIn}
 use Rattle.interval_audit.specs.Causes.{IsCauseIn}
-use Rattle.interval_audit.specs.WalkLimits.{IsCutBelow, IsWalkAnswerWithin}
+use Rattle.interval_audit.specs.WalkLimits.{IsCutBelow, IsWithinLimit, IsWalkAnswerWithin}
 
 -- the component of the asked cell
 abbrev pub component_of : Inquiry → Group
@@ -66,6 +66,15 @@ IsCauseFor inquiry limit fault =
 abbrev pub IsCutOffBelow : Inquiry → ℕ → AskFault → Type 0
 IsCutOffBelow inquiry limit fault =
     IsCutBelow inquiry.pattern.system.now inquiry.pattern.cells.now (component_of inquiry) inquiry.question limit fault
+
+-- What comes out where a walk has ended. An answer is right, and read off the walk. A fault has its cause, and its walk
+-- keeps to each limit that this one keeps to; only a limit below the bound of the question's walks cuts one off.
+pub record IsOutcomeOfWalk (inquiry : Inquiry) (walk : TableauWalk) (result : Result Answer AskFault) : Type 0 where
+  pub right : IfOk result (λ answer. IsRightFor inquiry answer)
+  pub read : IfOk result (λ answer. IsReadOffWalk inquiry walk answer)
+  pub cause : IfErr result (λ fault. (limit : ℕ) → IsCauseFor inquiry limit fault)
+  pub within : IfErr result (λ fault. (limit : ℕ) → walk.improved ≤ limit → IsWithinLimit limit fault)
+  pub short : IfErr result (λ fault. (limit : ℕ) → IsCutOffBelow inquiry limit fault)
 
 -- the world is the one that the amounts of a walk's columns make
 abbrev pub IsWorldOfWalk : Inquiry → TableauWalk → World → Type 0

@@ -17,5 +17,6 @@ pub mod FlowQuestions
 pub mod SignedSystems
 pub mod Inquiries
 pub mod Ends
+pub mod Outcomes
 pub mod FewerHidden
 pub mod MovePairs

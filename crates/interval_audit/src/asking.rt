@@ -1,4 +1,4 @@
-ghost use Rattle.std.specs.Prelude.{◌≡◌, ◌≤◌, ◌<◌, ◌^◌, ◌-◌, ℕ, Bool, List, length, true, IfOk, IfErr};
+ghost use Rattle.std.specs.Prelude.{◌≡◌, ◌<◌, ◌^◌, ◌-◌, ℕ, length, true, IfOk, IfErr};
 ghost use Rattle.sdc_base.specs.Patterns.{IsPattern};
 ghost use Rattle.sdc_base.specs.HiddenSets.{is_hidden};
 ghost use Rattle.sdc_base.specs.Signs.{AreSigns, HasNone};
@@ -8,6 +8,7 @@ ghost use Rattle.interval_audit.specs.FlowQuestions.{answer_of_flow};
 ghost use Rattle.interval_audit.specs.Groups.{Group, IsComponentOf, members};
 ghost use Rattle.interval_audit.specs.ProblemSizes.{IsAmpleForSize};
 ghost use Rattle.interval_audit.specs.WalkLimits.{HasNoWalk, IsAmple, IsNotCutOff, IsWithinLimit, IsAnswerWithin};
+ghost use Rattle.interval_audit.specs.Outcomes.{CanBeAsked, IsQuestionOutcome};
 ghost use Rattle.interval_audit.specs.Inquiries as inquiries;
 
 use crate::answer::{Answer, AskFault, Walk, WidePlace};
@@ -67,21 +68,8 @@ pub fn ask(
     question: Question,
     limit: u64,
 ) -> Result<Answer, AskFault>
-    requires ground { IsPattern system.now cells.now hidden.now.flags }
-    requires hidden { is_hidden hidden.now.flags question.cell ≡ true }
-    requires limit { 1 ≤ limit }
-    ensures right { IfOk result (λ answer. IsTrueAnswer system.now cells.now hidden.now.flags question answer) }
-    ensures read { IfOk result (λ answer. IsAnswerOf system.now cells.now hidden.now.flags question answer) }
-    ensures cause { IfErr result (λ fault. IsCauseOf system.now cells.now hidden.now.flags question limit fault) }
-    ensures made { HasNone system.now.relations
-        → IfOk result (λ answer. IsAnswerWithin system.now cells.now hidden.now.flags question limit answer) }
-    ensures within { IfErr result (λ fault. IsWithinLimit limit fault) }
-    ensures short { IsAmple system.now cells.now hidden.now.flags question limit
-        → IfErr result (λ fault. IsNotCutOff fault) }
-    ensures size { IsAmpleForSize system.now hidden.now.flags question limit
-        → IfErr result (λ fault. IsNotCutOff fault) }
-    ensures signed { (signs : List Bool) → AreSigns system.now.relations signs
-        → IfErr result (λ fault. HasNoWalk fault) }
+    requires { CanBeAsked system.now cells.now hidden.now.flags question.cell limit }
+    ensures { IsQuestionOutcome system.now cells.now hidden.now.flags question limit result }
 {
     let signed = SignedSystem::of(alloc, system)?;
     signed.ask(alloc, cells, hidden, question, limit)
@@ -165,9 +153,7 @@ pub(crate) fn ask_walk<'a>(
     question: Question,
     limit: u64,
 ) -> Result<Answer, AskFault>
-    requires ground { IsPattern system.now cells.now hidden.now.flags }
-    requires hidden { is_hidden hidden.now.flags question.cell ≡ true }
-    requires limit { 1 ≤ limit }
+    requires asked { CanBeAsked system.now cells.now hidden.now.flags question.cell limit }
     requires no_signs { HasNone system.now.relations }
     ensures right { IfOk result (λ answer. IsTrueAnswer system.now cells.now hidden.now.flags question answer) }
     ensures read { IfOk result (λ answer. IsWalkAnswer system.now cells.now hidden.now.flags question answer) }

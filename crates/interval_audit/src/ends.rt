@@ -1,14 +1,8 @@
-ghost use Rattle.std.specs.Prelude.{◌≡◌, ◌≤◌, Bool, List, length, true, IfOk, IfErr};
-ghost use Rattle.sdc_base.specs.Patterns.{IsPattern};
-ghost use Rattle.sdc_base.specs.HiddenSets.{is_hidden};
-ghost use Rattle.sdc_base.specs.declared.side.Side.{Side as AnySide};
-ghost use Rattle.sdc_base.specs.declared.side.Side.TheVariants.{Above, Below};
-ghost use Rattle.interval_audit.specs.declared.question.Question.{Question as AnyQuestion};
-ghost use Rattle.interval_audit.specs.Answers.{IsTrueAnswer};
-ghost use Rattle.interval_audit.specs.Causes.{IsCauseOf};
+ghost use Rattle.std.specs.Prelude.{Bool, List, IfOk, IfErr};
 ghost use Rattle.sdc_base.specs.Signs.{AreSigns};
 ghost use Rattle.interval_audit.specs.WalkLimits.{HasNoWalk};
-ghost use Rattle.interval_audit.specs.Ends.{IsEndQuestion, IsTrueEnd, IsEndAnswer, IsWholeEnd, IsEndCause, IsIntervalCause};
+ghost use Rattle.interval_audit.specs.Ends.{IsEndQuestion, IsTrueEnd, IsEndAnswer, IsWholeEnd, IsEndCause};
+ghost use Rattle.interval_audit.specs.Outcomes.{CanBeAsked, IsIntervalOutcome};
 
 use crate::answer::{Answer, AskFault};
 use crate::question::Question;
@@ -42,20 +36,8 @@ pub fn interval(
     cell: u32,
     limit: u64,
 ) -> Result<TwoEnds, AskFault>
-    requires ground { IsPattern system.now cells.now hidden.now.flags }
-    requires hidden { is_hidden hidden.now.flags cell ≡ true }
-    requires limit { 1 ≤ limit }
-    ensures below { IfOk result (λ ends. IsTrueEnd system.now cells.now hidden.now.flags cell Below ends.below) }
-    ensures above { IfOk result (λ ends. IsTrueEnd system.now cells.now hidden.now.flags cell Above ends.above) }
-    ensures below_read { IfOk result (λ ends. IsEndAnswer system.now cells.now hidden.now.flags cell Below ends.below) }
-    ensures above_read { IfOk result (λ ends. IsEndAnswer system.now cells.now hidden.now.flags cell Above ends.above) }
-    ensures below_whole { (signs : List Bool) → AreSigns system.now.relations signs
-        → IfOk result (λ ends. IsWholeEnd system.now cells.now hidden.now.flags cell Below ends.below) }
-    ensures above_whole { (signs : List Bool) → AreSigns system.now.relations signs
-        → IfOk result (λ ends. IsWholeEnd system.now cells.now hidden.now.flags cell Above ends.above) }
-    ensures cause { IfErr result (λ fault. IsIntervalCause system.now cells.now hidden.now.flags cell limit fault) }
-    ensures signed { (signs : List Bool) → AreSigns system.now.relations signs
-        → IfErr result (λ fault. HasNoWalk fault) }
+    requires { CanBeAsked system.now cells.now hidden.now.flags cell limit }
+    ensures { IsIntervalOutcome system.now cells.now hidden.now.flags cell limit result }
 {
     let signed = SignedSystem::of(alloc, system)?;
     signed_interval(alloc, &signed, cells, hidden, cell, limit)
@@ -71,20 +53,8 @@ pub fn signed_interval(
     cell: u32,
     limit: u64,
 ) -> Result<TwoEnds, AskFault>
-    requires ground { IsPattern system.now cells.now hidden.now.flags }
-    requires hidden { is_hidden hidden.now.flags cell ≡ true }
-    requires limit { 1 ≤ limit }
-    ensures below { IfOk result (λ ends. IsTrueEnd system.now cells.now hidden.now.flags cell Below ends.below) }
-    ensures above { IfOk result (λ ends. IsTrueEnd system.now cells.now hidden.now.flags cell Above ends.above) }
-    ensures below_read { IfOk result (λ ends. IsEndAnswer system.now cells.now hidden.now.flags cell Below ends.below) }
-    ensures above_read { IfOk result (λ ends. IsEndAnswer system.now cells.now hidden.now.flags cell Above ends.above) }
-    ensures below_whole { (signs : List Bool) → AreSigns system.now.relations signs
-        → IfOk result (λ ends. IsWholeEnd system.now cells.now hidden.now.flags cell Below ends.below) }
-    ensures above_whole { (signs : List Bool) → AreSigns system.now.relations signs
-        → IfOk result (λ ends. IsWholeEnd system.now cells.now hidden.now.flags cell Above ends.above) }
-    ensures cause { IfErr result (λ fault. IsIntervalCause system.now cells.now hidden.now.flags cell limit fault) }
-    ensures signed { (signs : List Bool) → AreSigns system.now.relations signs
-        → IfErr result (λ fault. HasNoWalk fault) }
+    requires { CanBeAsked system.now cells.now hidden.now.flags cell limit }
+    ensures { IsIntervalOutcome system.now cells.now hidden.now.flags cell limit result }
 {
     let below = end_of(alloc, system, cells, hidden, (cell, Side::Below), limit)?;
     let above = end_of(alloc, system, cells, hidden, (cell, Side::Above), limit)?;
@@ -100,9 +70,7 @@ fn end_of(
     asked: (u32, Side),
     limit: u64,
 ) -> Result<Answer, AskFault>
-    requires ground { IsPattern system.now cells.now hidden.now.flags }
-    requires hidden { is_hidden hidden.now.flags asked.0 ≡ true }
-    requires limit { 1 ≤ limit }
+    requires { CanBeAsked system.now cells.now hidden.now.flags asked.0 limit }
     ensures right { IfOk result (λ answer. IsTrueEnd system.now cells.now hidden.now.flags asked.0 asked.1 answer) }
     ensures read { IfOk result (λ answer. IsEndAnswer system.now cells.now hidden.now.flags asked.0 asked.1 answer) }
     ensures whole { (signs : List Bool) → AreSigns system.now.relations signs

@@ -1,4 +1,4 @@
-ghost use Rattle.std.specs.Prelude.{◌≡◌, ◌<◌, ◌≤◌, ◌*◌, ◌^◌, ◌*ℤ◌, ◌<ℤ◌, ◌≤ℤ◌, All, pos, IfOk, IfErr, true, ℕ, neg_ℤ};
+ghost use Rattle.std.specs.Prelude.{◌≡◌, ◌<◌, ◌≤◌, ◌*◌, ◌^◌, ◌*ℤ◌, ◌<ℤ◌, ◌≤ℤ◌, All, pos, IfOk, true, neg_ℤ};
 ghost use Rattle.tableau.specs.Steps.{IsReached, IsBlocked};
 ghost use Rattle.tableau.specs.TableLaws.{value};
 ghost use Rattle.tableau.specs.Problems.{variable_count};
@@ -7,7 +7,6 @@ ghost use Rattle.interval_audit.specs.WalkStates.{state_of, objective_of, IsAtPo
 ghost use Rattle.worlds.specs.NumberLists.{terms_of, number_given};
 ghost use Rattle.interval_audit.specs.Answers.{HasEnded, asked_move_in};
 ghost use Rattle.interval_audit.specs.Inquiries as inquiries;
-ghost use Rattle.interval_audit.specs.WalkLimits.{IsWithinLimit};
 
 use crate::answer::{Answer, AskFault, Walk, WidePlace};
 use crate::checking::wide_at;
@@ -28,13 +27,7 @@ pub(crate) fn finish(
 ) -> Result<Answer, AskFault>
     requires problem { tableau.problem ≡ inquiries.problem_for inquiry.now }
     requires ended { HasEnded tableau }
-    ensures right { IfOk result (λ answer. inquiries.IsRightFor inquiry.now answer) }
-    ensures read { IfOk result (λ answer. inquiries.IsReadOffWalk inquiry.now tableau answer) }
-    ensures cause { IfErr result (λ fault. (limit : ℕ)
-        → inquiries.IsCauseFor inquiry.now limit fault) }
-    ensures within { IfErr result (λ fault. (limit : ℕ) → tableau.improved ≤ limit → IsWithinLimit limit fault) }
-    ensures short { IfErr result (λ fault. (limit : ℕ)
-        → inquiries.IsCutOffBelow inquiry.now limit fault) }
+    ensures { inquiries.IsOutcomeOfWalk inquiry.now tableau result }
 {
     // for the proof: what is known of a walk
     read_state(&tableau);
@@ -130,13 +123,7 @@ fn stop(
     requires stuck { IsAtOptimum (state_of tableau) }
     requires world { inquiries.IsWorldOfWalk inquiry.now tableau world }
     requires num { num ≡ asked_move_in inquiry.now.question world }
-    ensures right { IfOk result (λ answer. inquiries.IsRightFor inquiry.now answer) }
-    ensures read { IfOk result (λ answer. inquiries.IsReadOffWalk inquiry.now tableau answer) }
-    ensures cause { IfErr result (λ fault. (limit : ℕ)
-        → inquiries.IsCauseFor inquiry.now limit fault) }
-    ensures within { IfErr result (λ fault. (limit : ℕ) → tableau.improved ≤ limit → IsWithinLimit limit fault) }
-    ensures short { IfErr result (λ fault. (limit : ℕ)
-        → inquiries.IsCutOffBelow inquiry.now limit fault) }
+    ensures { inquiries.IsOutcomeOfWalk inquiry.now tableau result }
 {
     let multipliers = multipliers_of(alloc, inquiry, &tableau)?;
     let mut scratch = Vec::from_elem(alloc, 0, inquiry.pattern.system.cells as usize)?;

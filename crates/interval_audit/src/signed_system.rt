@@ -1,11 +1,6 @@
-ghost use Rattle.std.specs.Prelude.{◌≡◌, ◌≤◌, Bool, List, true, false, IfOk, IfErr};
-ghost use Rattle.sdc_base.specs.Patterns.{IsPattern};
-ghost use Rattle.sdc_base.specs.HiddenSets.{is_hidden};
-ghost use Rattle.sdc_base.specs.Signs.{AreSigns, HasNone};
-ghost use Rattle.interval_audit.specs.Answers.{IsTrueAnswer, IsAnswerOf};
-ghost use Rattle.interval_audit.specs.Causes.{IsCauseOf};
-ghost use Rattle.interval_audit.specs.ProblemSizes.{IsAmpleForSize};
-ghost use Rattle.interval_audit.specs.WalkLimits.{HasNoWalk, IsAmple, IsNotCutOff, IsWithinLimit, IsAnswerWithin};
+ghost use Rattle.std.specs.Prelude.{◌≡◌, false, IfOk};
+ghost use Rattle.sdc_base.specs.Signs.{HasNone};
+ghost use Rattle.interval_audit.specs.Outcomes.{CanBeAsked, IsQuestionOutcome};
 
 use crate::answer::{Answer, AskFault};
 use crate::asking::{ask_flow, ask_walk};
@@ -76,21 +71,8 @@ impl<'a> SignedSystem<'a> {
         question: Question,
         limit: u64,
     ) -> Result<Answer, AskFault>
-        requires ground { IsPattern self.now cells.now hidden.now.flags }
-        requires hidden { is_hidden hidden.now.flags question.cell ≡ true }
-        requires limit { 1 ≤ limit }
-        ensures right { IfOk result (λ answer. IsTrueAnswer self.now cells.now hidden.now.flags question answer) }
-        ensures read { IfOk result (λ answer. IsAnswerOf self.now cells.now hidden.now.flags question answer) }
-        ensures cause { IfErr result (λ fault. IsCauseOf self.now cells.now hidden.now.flags question limit fault) }
-        ensures made { HasNone self.now.relations
-            → IfOk result (λ answer. IsAnswerWithin self.now cells.now hidden.now.flags question limit answer) }
-        ensures within { IfErr result (λ fault. IsWithinLimit limit fault) }
-        ensures short { IsAmple self.now cells.now hidden.now.flags question limit
-            → IfErr result (λ fault. IsNotCutOff fault) }
-        ensures size { IsAmpleForSize self.now hidden.now.flags question limit
-            → IfErr result (λ fault. IsNotCutOff fault) }
-        ensures signed { (signs : List Bool) → AreSigns self.now.relations signs
-            → IfErr result (λ fault. HasNoWalk fault) }
+        requires { CanBeAsked self.now cells.now hidden.now.flags question.cell limit }
+        ensures { IsQuestionOutcome self.now cells.now hidden.now.flags question limit result }
     {
         let system = self.system;
         match &self.signs {

@@ -5,6 +5,9 @@ use Rattle.interval_audit.specs.Ends.{IsTrueEnd}
 use Rattle.cell_intervals.specs.Intervals.{IsIntervalOf, KeepsWholeEnds}
 use Rattle.cell_intervals.proofs.intervals.interval_of.Goals as goal
 
+pub signed_interval-requires : goal.signed_interval-requires
+signed_interval-requires c = record { ground = c.requires.ground; hidden = c.requires.hidden; some_steps = c.requires.limit }
+
 pub interval_from-requires-clause-below : goal.interval_from-requires-clause-below
 interval_from-requires-clause-below c =
     subst (λ (own : System). IsTrueEnd own c.args.cells.now c.args.hidden.now.flags c.args.cell Below c.in_ok-ends.ends.below) (sym c.system.ensures) c.in_ok-ends.ensures.below

@@ -16,7 +16,7 @@ use Rattle.interval_audit.proofs.Proper.{rank-most}
 use Rattle.interval_audit.proofs.asking.ask_walk.Goals as goal
 
 pub rows_of-requires : goal.rows_of-requires
-rows_of-requires c = record { components = (c.args.hidden.now.flags, c.requires.ground.each_flag, c.in_ok-grouping.ensures) }
+rows_of-requires c = record { components = (c.args.hidden.now.flags, c.requires.asked.ground.each_flag, c.in_ok-grouping.ensures) }
 
 pub list_of-met-requires : goal.list_of-met-requires
 list_of-met-requires c =
@@ -38,7 +38,7 @@ invariant_of-inquiry c =
       met_are = c.list_of-met.ensures c.args.system.now.relations (length c.in_ok-grouping.grouping.sizes)
           (ap lists_in c.as_slice-rows.ensures.value ∙ c.in_ok-lists.ensures ∙ ap (λ (of : List (Option ℕ)). rows_of c.args.system.now.relations of (length c.in_ok-grouping.grouping.sizes)) (sym c.as_slice-of.ensures));
       within_most_members = omega (arith, size, ap (λ (xs : List ℕ). length xs) c.in_ok-members.ensures, c.if-size-gt-MOST_MEMBERS.false);
-      group = components_are_groups c.args.system.now c.args.hidden.now.flags of c.in_ok-grouping.grouping.sizes c.args.question.cell c.requires.ground.each_flag are c.requires.hidden;
+      group = components_are_groups c.args.system.now c.args.hidden.now.flags of c.in_ok-grouping.grouping.sizes c.args.question.cell c.requires.asked.ground.each_flag are c.requires.asked.hidden;
     }
 
 pub overflow_cast-result : goal.overflow_cast-result
@@ -53,7 +53,7 @@ returns-then-size-gt-MOST_MEMBERS-clause-cause c =
     let of : List (Option ℕ) = c.as_slice-of.result.now in
     let are : AreComponents c.args.system.now.relations c.args.hidden.now.flags of c.in_ok-grouping.grouping.sizes =
     subst (λ (of : List (Option ℕ)). AreComponents c.args.system.now.relations c.args.hidden.now.flags of c.in_ok-grouping.grouping.sizes) (sym c.as_slice-of.ensures) c.in_ok-grouping.ensures in
-    let own : IsComponentOf c.args.system.now.relations c.args.hidden.now.flags c.args.question.cell (group_of of c.args.question.cell) = group_is c.args.system.now.relations c.args.hidden.now.flags of c.in_ok-grouping.grouping.sizes c.args.question.cell are c.requires.hidden in
+    let own : IsComponentOf c.args.system.now.relations c.args.hidden.now.flags c.args.question.cell (group_of of c.args.question.cell) = group_is c.args.system.now.relations c.args.hidden.now.flags of c.in_ok-grouping.grouping.sizes c.args.question.cell are c.requires.asked.hidden in
     let size : c.len-size.result ≡ length c.in_ok-members.members.items = search rules in
     (group_of of c.args.question.cell, own, (refl, size ∙ ap (λ (xs : List ℕ). length xs) c.in_ok-members.ensures, c.if-size-gt-MOST_MEMBERS.true))
 
@@ -62,7 +62,7 @@ returns-clause-read c =
     let of : List (Option ℕ) = c.as_slice-of.result.now in
     let are : AreComponents c.args.system.now.relations c.args.hidden.now.flags of c.in_ok-grouping.grouping.sizes =
     subst (λ (of : List (Option ℕ)). AreComponents c.args.system.now.relations c.args.hidden.now.flags of c.in_ok-grouping.grouping.sizes) (sym c.as_slice-of.ensures) c.in_ok-grouping.ensures in
-    let own : IsComponentOf c.args.system.now.relations c.args.hidden.now.flags c.args.question.cell (group_of of c.args.question.cell) = group_is c.args.system.now.relations c.args.hidden.now.flags of c.in_ok-grouping.grouping.sizes c.args.question.cell are c.requires.hidden in
+    let own : IsComponentOf c.args.system.now.relations c.args.hidden.now.flags c.args.question.cell (group_of of c.args.question.cell) = group_is c.args.system.now.relations c.args.hidden.now.flags of c.in_ok-grouping.grouping.sizes c.args.question.cell are c.requires.asked.hidden in
     let size : c.len-size.result ≡ length c.in_ok-members.members.items = search rules in
     let few : length (members (group_of of c.args.question.cell) c.args.system.now.cells) ≤ most_members = omega (arith, size, ap (λ (xs : List ℕ). length xs) c.in_ok-members.ensures, c.if-size-gt-MOST_MEMBERS.false) in
     if_ok_more (λ (answer : Answer). IsWalkAnswerIn c.args.system.now c.args.cells.now (group_of of c.args.question.cell) c.args.question answer)
@@ -74,7 +74,7 @@ returns-clause-cause c =
     let of : List (Option ℕ) = c.as_slice-of.result.now in
     let are : AreComponents c.args.system.now.relations c.args.hidden.now.flags of c.in_ok-grouping.grouping.sizes =
     subst (λ (of : List (Option ℕ)). AreComponents c.args.system.now.relations c.args.hidden.now.flags of c.in_ok-grouping.grouping.sizes) (sym c.as_slice-of.ensures) c.in_ok-grouping.ensures in
-    let own : IsComponentOf c.args.system.now.relations c.args.hidden.now.flags c.args.question.cell (group_of of c.args.question.cell) = group_is c.args.system.now.relations c.args.hidden.now.flags of c.in_ok-grouping.grouping.sizes c.args.question.cell are c.requires.hidden in
+    let own : IsComponentOf c.args.system.now.relations c.args.hidden.now.flags c.args.question.cell (group_of of c.args.question.cell) = group_is c.args.system.now.relations c.args.hidden.now.flags of c.in_ok-grouping.grouping.sizes c.args.question.cell are c.requires.asked.hidden in
     if_caused c.args.system.now c.args.cells.now c.args.hidden.now.flags (group_of of c.args.question.cell) c.args.question c.args.limit c.walk_on.result own c.requires.no_signs c.walk_on.ensures.cause
 
 pub returns-clause-short : goal.returns-clause-short
@@ -82,7 +82,7 @@ returns-clause-short c = λ ample.
     let of : List (Option ℕ) = c.as_slice-of.result.now in
     let are : AreComponents c.args.system.now.relations c.args.hidden.now.flags of c.in_ok-grouping.grouping.sizes =
     subst (λ (of : List (Option ℕ)). AreComponents c.args.system.now.relations c.args.hidden.now.flags of c.in_ok-grouping.grouping.sizes) (sym c.as_slice-of.ensures) c.in_ok-grouping.ensures in
-    let own : IsComponentOf c.args.system.now.relations c.args.hidden.now.flags c.args.question.cell (group_of of c.args.question.cell) = group_is c.args.system.now.relations c.args.hidden.now.flags of c.in_ok-grouping.grouping.sizes c.args.question.cell are c.requires.hidden in
+    let own : IsComponentOf c.args.system.now.relations c.args.hidden.now.flags c.args.question.cell (group_of of c.args.question.cell) = group_is c.args.system.now.relations c.args.hidden.now.flags of c.in_ok-grouping.grouping.sizes c.args.question.cell are c.requires.asked.hidden in
     if_ample c.args.system.now c.args.cells.now (group_of of c.args.question.cell) c.args.question c.args.limit c.walk_on.result (ample (group_of of c.args.question.cell) own) c.walk_on.ensures.short
 
 pub returns-clause-size : goal.returns-clause-size
@@ -90,7 +90,7 @@ returns-clause-size c = λ ample.
     let of : List (Option ℕ) = c.as_slice-of.result.now in
     let are : AreComponents c.args.system.now.relations c.args.hidden.now.flags of c.in_ok-grouping.grouping.sizes =
     subst (λ (of : List (Option ℕ)). AreComponents c.args.system.now.relations c.args.hidden.now.flags of c.in_ok-grouping.grouping.sizes) (sym c.as_slice-of.ensures) c.in_ok-grouping.ensures in
-    let own : IsComponentOf c.args.system.now.relations c.args.hidden.now.flags c.args.question.cell (group_of of c.args.question.cell) = group_is c.args.system.now.relations c.args.hidden.now.flags of c.in_ok-grouping.grouping.sizes c.args.question.cell are c.requires.hidden in
+    let own : IsComponentOf c.args.system.now.relations c.args.hidden.now.flags c.args.question.cell (group_of of c.args.question.cell) = group_is c.args.system.now.relations c.args.hidden.now.flags of c.in_ok-grouping.grouping.sizes c.args.question.cell are c.requires.asked.hidden in
     if_ample c.args.system.now c.args.cells.now (group_of of c.args.question.cell) c.args.question c.args.limit c.walk_on.result
     (ample_for_size c.args.system.now c.args.cells.now (group_of of c.args.question.cell) c.args.question c.args.limit (ample (group_of of c.args.question.cell) own)) c.walk_on.ensures.short
 
@@ -99,7 +99,7 @@ returns-clause-made c =
     let of : List (Option ℕ) = c.as_slice-of.result.now in
     let are : AreComponents c.args.system.now.relations c.args.hidden.now.flags of c.in_ok-grouping.grouping.sizes =
     subst (λ (of : List (Option ℕ)). AreComponents c.args.system.now.relations c.args.hidden.now.flags of c.in_ok-grouping.grouping.sizes) (sym c.as_slice-of.ensures) c.in_ok-grouping.ensures in
-    let own : IsComponentOf c.args.system.now.relations c.args.hidden.now.flags c.args.question.cell (group_of of c.args.question.cell) = group_is c.args.system.now.relations c.args.hidden.now.flags of c.in_ok-grouping.grouping.sizes c.args.question.cell are c.requires.hidden in
+    let own : IsComponentOf c.args.system.now.relations c.args.hidden.now.flags c.args.question.cell (group_of of c.args.question.cell) = group_is c.args.system.now.relations c.args.hidden.now.flags of c.in_ok-grouping.grouping.sizes c.args.question.cell are c.requires.asked.hidden in
     if_ok_more (λ (answer : Answer). IsWalkAnswerWithin c.args.system.now c.args.cells.now (group_of of c.args.question.cell) c.args.question c.args.limit answer)
     (λ (answer : Answer). IsAnswerWithin c.args.system.now c.args.cells.now c.args.hidden.now.flags c.args.question c.args.limit answer)
     c.walk_on.result (λ answer is. (group_of of c.args.question.cell, own, is)) c.walk_on.ensures.made

@@ -1,16 +1,17 @@
-use Rattle.std.proofs.Common.{◌≡◌, ℕ, true, sym, subst}
-use Rattle.sdc_base.specs.HiddenSets.{is_hidden}
+use Rattle.std.proofs.Common.{ℕ, sym, subst}
 use Rattle.interval_audit.specs.declared.answer.Answer.{Answer}
 use Rattle.interval_audit.specs.declared.answer.AskFault.{AskFault}
 use Rattle.interval_audit.specs.Answers.{IsTrueAnswer, IsAnswerOf}
 use Rattle.interval_audit.specs.Causes.{IsCauseOf}
 use Rattle.interval_audit.specs.Ends.{IsTrueEnd, IsEndAnswer, IsEndCause}
+use Rattle.interval_audit.specs.Outcomes.{CanBeAsked}
 use Rattle.interval_audit.proofs.QuestionAnswers.{if_ok_more, if_err_more}
 use Rattle.interval_audit.proofs.WholeEnds.{if_whole_end}
 use Rattle.interval_audit.proofs.ends.end_of.Goals as goal
 
-pub ask-requires-clause-hidden : goal.ask-requires-clause-hidden
-ask-requires-clause-hidden c = subst (λ (one : ℕ). is_hidden c.args.hidden.now.flags one ≡ true) (sym c.end_question-question.ensures.cell_is) c.requires.hidden
+pub ask-requires : goal.ask-requires
+ask-requires c =
+    subst (λ (one : ℕ). CanBeAsked c.args.system.now c.args.cells.now c.args.hidden.now.flags one c.args.limit) (sym c.end_question-question.ensures.cell_is) c.requires
 
 pub returns-clause-right : goal.returns-clause-right
 returns-clause-right c =

@@ -10,8 +10,14 @@ use Rattle.repair.proofs.asking.ask_walk.Goals as goal
 pub level_question-aim-requires-clause-primary : goal.level_question-aim-requires-clause-primary
 level_question-aim-requires-clause-primary c = primary_here c.args.question.now.cells.now c.args.question.now.asked.0 c.args.question.now.is_askable.primary
 
-pub ask-requires-clause-hidden : goal.ask-requires-clause-hidden
-ask-requires-clause-hidden c = ap (λ n. is_hidden c.args.question.now.hidden.now.flags n) c.level_question-aim.ensures.cell_is ∙ c.args.question.now.is_askable.hidden
+pub ask-requires : goal.ask-requires
+ask-requires c =
+    let own = c.args.question.now in
+    record {
+      ground = own.is_askable.one_each;
+      hidden = ap (λ n. is_hidden own.hidden.now.flags n) c.level_question-aim.ensures.cell_is ∙ own.is_askable.hidden;
+      some_steps = own.is_askable.some_steps;
+    }
 
 pub returns-in_err-answer-clause-err : goal.returns-in_err-answer-clause-err
 returns-in_err-answer-clause-err c =

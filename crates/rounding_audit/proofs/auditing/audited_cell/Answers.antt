@@ -1,6 +1,17 @@
-use Rattle.std.proofs.Common.{Bool, List, subst}
+use Rattle.std.proofs.Common.{◌≡◌, Bool, List, subst, sym, true}
+use Rattle.sdc_base.specs.HiddenSets.{is_hidden}
 use Rattle.cell_intervals.specs.IntervalFaults.{HasBothEnds}
+use Rattle.rounding_audit.proofs.ReaderWorlds.{hidden_all}
 use Rattle.rounding_audit.proofs.auditing.audited_cell.Goals as goal
+
+pub signed_interval-requires : goal.signed_interval-requires
+signed_interval-requires c =
+    let r = c.args.reader.now in
+    record {
+      ground = r.ground;
+      hidden = subst (λ (flags : List Bool). is_hidden flags c.args.number ≡ true) (sym r.flags) (hidden_all r.system.now.cells c.args.number c.requires.inside);
+      some_steps = c.requires.limit;
+    }
 
 pub returns-clause-ended : goal.returns-clause-ended
 returns-clause-ended c =
