@@ -12,9 +12,10 @@ use Rattle.repair.specs.Needs.{set_when_tried}
 use Rattle.repair.proofs.Flags.{IsWithin, clash, same_or_other, within_both, within_itself}
 use Rattle.repair.proofs.Repairing.{none_is_more}
 use Rattle.attackers.specs.declared.attack.Attack.{Attack}
+use Rattle.certificate.specs.declared.certificate.WorldLine.{WorldLine}
 use Rattle.certificate.specs.declared.extra.ExtraNeed.{ExtraNeed}
 use Rattle.attackers.specs.declared.extra.GuardStop.{GuardStop}
-use Rattle.attackers.specs.declared.progress.Progress.{Progress}
+use Rattle.repair.specs.declared.progress.Progress.{Progress}
 use Rattle.attackers.specs.declared.contributor_task.ContributorTask.{ContributorTask}
 use Rattle.attackers.specs.KnownCells.{Guards, GuardsBefore}
 use Rattle.attackers.specs.AttackOrder.{IsThinned}
@@ -37,25 +38,25 @@ none_dropped c soles attacks first larger = record {
 }
 
 -- a question that has a fault stops the hiding of extra cells
-stop_by : (task : ContributorTask) (first : List Bool) (progress : Progress) (fault : AskFault) (row : ℕ) → IsHalted task first progress fault row → IsGuardStop (case_of task) task.soles.now task.prices.now task.attacks.now first task.limit fault row progress.extras []
+stop_by : (task : ContributorTask) (first : List Bool) (progress : Progress WorldLine ExtraNeed) (fault : AskFault) (row : ℕ) → IsHalted task first progress fault row → IsGuardStop (case_of task) task.soles.now task.prices.now task.attacks.now first task.limit fault row progress.reasons []
 stop_by task first progress fault row is = record {
   each = is.is_extended.each;
-  are_dropped = none_dropped (case_of task) task.soles.now task.attacks.now first (hide_cells first (subjects_of progress.extras));
+  are_dropped = none_dropped (case_of task) task.soles.now task.attacks.now first (hide_cells first (subjects_of progress.reasons));
   place = is.place;
   asked = subst (λ (f : List Bool). IsAsked (case_of task) task.soles.now task.attacks.now f task.limit fault row is.place) is.is_extended.hidden_is is.asked;
   onward = λ none. is.is_extended.onward;
 }
 
-stops_for : (task : ContributorTask) (first : List Bool) (progress : Progress) (fault : AskFault) (row : ℕ) → IsHalted task first progress fault row → StopsFor (case_of task) task.soles.now task.prices.now task.attacks.now first task.limit fault (row_with_fault fault row) (list_with_fault fault progress.extras) (list_with_fault fault [])
+stops_for : (task : ContributorTask) (first : List Bool) (progress : Progress WorldLine ExtraNeed) (fault : AskFault) (row : ℕ) → IsHalted task first progress fault row → StopsFor (case_of task) task.soles.now task.prices.now task.attacks.now first task.limit fault (row_with_fault fault row) (list_with_fault fault progress.reasons) (list_with_fault fault [])
 stops_for task first progress (Work walk) row is = stop_by task first progress (Work walk) row is
 stops_for task first progress (Wide walk place) row is = stop_by task first progress (Wide walk place) row is
 stops_for task first progress (Size question hidden) row is = stop_by task first progress (Size question hidden) row is
 stops_for task first progress Memory row is = (refl, refl, refl)
 
 -- a question that has a fault while a cell is tried
-try_stop_by : (task : ContributorTask) (first : List Bool) (progress : Progress) (place : ℕ) (fault : AskFault) (row : ℕ) (dropped : List ℕ) → IsExtendedUpTo task place first progress → IsTryStop (case_of task) task.soles.now task.attacks.now first progress.hidden.flags task.limit fault row dropped → IsGuardStop (case_of task) task.soles.now task.prices.now task.attacks.now first task.limit fault row progress.extras dropped
+try_stop_by : (task : ContributorTask) (first : List Bool) (progress : Progress WorldLine ExtraNeed) (place : ℕ) (fault : AskFault) (row : ℕ) (dropped : List ℕ) → IsExtendedUpTo task place first progress → IsTryStop (case_of task) task.soles.now task.attacks.now first progress.hidden.flags task.limit fault row dropped → IsGuardStop (case_of task) task.soles.now task.prices.now task.attacks.now first task.limit fault row progress.reasons dropped
 try_stop_by task first progress place fault row dropped is stop =
-    let own : IsTryStop (case_of task) task.soles.now task.attacks.now first (hide_cells first (subjects_of progress.extras)) task.limit fault row dropped =
+    let own : IsTryStop (case_of task) task.soles.now task.attacks.now first (hide_cells first (subjects_of progress.reasons)) task.limit fault row dropped =
     subst (λ (f : List Bool). IsTryStop (case_of task) task.soles.now task.attacks.now first f task.limit fault row dropped) is.hidden_is stop in
     record {
       each = is.each;
@@ -65,7 +66,7 @@ try_stop_by task first progress place fault row dropped is stop =
       onward = λ none. absurd (own.drops_a_cell none);
     }
 
-stops_trying : (task : ContributorTask) (first : List Bool) (progress : Progress) (place : ℕ) (fault : AskFault) (row : ℕ) (dropped : List ℕ) → IsExtendedUpTo task place first progress → TriesStopFor task first progress.hidden.flags fault row dropped → StopsFor (case_of task) task.soles.now task.prices.now task.attacks.now first task.limit fault (row_with_fault fault row) (list_with_fault fault progress.extras) (list_with_fault fault dropped)
+stops_trying : (task : ContributorTask) (first : List Bool) (progress : Progress WorldLine ExtraNeed) (place : ℕ) (fault : AskFault) (row : ℕ) (dropped : List ℕ) → IsExtendedUpTo task place first progress → TriesStopFor task first progress.hidden.flags fault row dropped → StopsFor (case_of task) task.soles.now task.prices.now task.attacks.now first task.limit fault (row_with_fault fault row) (list_with_fault fault progress.reasons) (list_with_fault fault dropped)
 stops_trying task first progress place (Work walk) row dropped is stop = try_stop_by task first progress place (Work walk) row dropped is stop
 stops_trying task first progress place (Wide walk at) row dropped is stop = try_stop_by task first progress place (Wide walk at) row dropped is stop
 stops_trying task first progress place (Size question hidden) row dropped is stop = try_stop_by task first progress place (Size question hidden) row dropped is stop
@@ -79,14 +80,14 @@ told c soles prices attacks first limit stop fault row extras dropped one two th
     (subst (λ (l : List ExtraNeed). StopsFor c soles prices attacks first limit fault row l stop.against.dropped) (sym three)
     (subst (λ (l : List ℕ). StopsFor c soles prices attacks first limit fault row extras l) (sym four) is)))
 
-pub stops_told : (task : ContributorTask) (first : List Bool) (progress : Progress) (fault : AskFault) (row : ℕ) (extras : List ExtraNeed) (none : List ℕ) (stop : GuardStop) → extras ≡ progress.extras → none ≡ [] → stop.fault ≡ fault → stop.against.row ≡ row_with_fault fault row → stop.against.extras ≡ list_with_fault fault extras → stop.against.dropped ≡ list_with_fault fault none → IsHalted task first progress fault row → IsStopAsTold (case_of task) task.soles.now task.prices.now task.attacks.now first task.limit stop
+pub stops_told : (task : ContributorTask) (first : List Bool) (progress : Progress WorldLine ExtraNeed) (fault : AskFault) (row : ℕ) (extras : List ExtraNeed) (none : List ℕ) (stop : GuardStop) → extras ≡ progress.reasons → none ≡ [] → stop.fault ≡ fault → stop.against.row ≡ row_with_fault fault row → stop.against.extras ≡ list_with_fault fault extras → stop.against.dropped ≡ list_with_fault fault none → IsHalted task first progress fault row → IsStopAsTold (case_of task) task.soles.now task.prices.now task.attacks.now first task.limit stop
 stops_told task first progress fault row extras none stop same empty one two three four is =
-    told (case_of task) task.soles.now task.prices.now task.attacks.now first task.limit stop fault (row_with_fault fault row) (list_with_fault fault progress.extras) (list_with_fault fault []) one two
+    told (case_of task) task.soles.now task.prices.now task.attacks.now first task.limit stop fault (row_with_fault fault row) (list_with_fault fault progress.reasons) (list_with_fault fault []) one two
     (three ∙ ap (λ (l : List ExtraNeed). list_with_fault fault l) same) (four ∙ ap (λ (l : List ℕ). list_with_fault fault l) empty) (stops_for task first progress fault row is)
 
-pub tries_told : (task : ContributorTask) (first : List Bool) (progress : Progress) (place : ℕ) (fault : AskFault) (row : ℕ) (extras : List ExtraNeed) (dropped : List ℕ) (stop : GuardStop) → extras ≡ progress.extras → stop.fault ≡ fault → stop.against.row ≡ row_with_fault fault row → stop.against.extras ≡ list_with_fault fault extras → stop.against.dropped ≡ list_with_fault fault dropped → IsExtendedUpTo task place first progress → TriesStopFor task first progress.hidden.flags fault row dropped → IsStopAsTold (case_of task) task.soles.now task.prices.now task.attacks.now first task.limit stop
+pub tries_told : (task : ContributorTask) (first : List Bool) (progress : Progress WorldLine ExtraNeed) (place : ℕ) (fault : AskFault) (row : ℕ) (extras : List ExtraNeed) (dropped : List ℕ) (stop : GuardStop) → extras ≡ progress.reasons → stop.fault ≡ fault → stop.against.row ≡ row_with_fault fault row → stop.against.extras ≡ list_with_fault fault extras → stop.against.dropped ≡ list_with_fault fault dropped → IsExtendedUpTo task place first progress → TriesStopFor task first progress.hidden.flags fault row dropped → IsStopAsTold (case_of task) task.soles.now task.prices.now task.attacks.now first task.limit stop
 tries_told task first progress place fault row extras dropped stop same one two three four is tries =
-    told (case_of task) task.soles.now task.prices.now task.attacks.now first task.limit stop fault (row_with_fault fault row) (list_with_fault fault progress.extras) (list_with_fault fault dropped) one two
+    told (case_of task) task.soles.now task.prices.now task.attacks.now first task.limit stop fault (row_with_fault fault row) (list_with_fault fault progress.reasons) (list_with_fault fault dropped) one two
     (three ∙ ap (λ (l : List ExtraNeed). list_with_fault fault l) same) four (stops_trying task first progress place fault row dropped is tries)
 
 -- ---- from the attacks that are left to all

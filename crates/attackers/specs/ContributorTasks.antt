@@ -16,10 +16,10 @@ use Rattle.repair.specs.LevelQuestions.{AreGiven, HasCause}
 use Rattle.attackers.specs.declared.attack.Attack.{Attack}
 use Rattle.attackers.specs.declared.attack.UnguardedAttack.{UnguardedAttack}
 use Rattle.certificate.specs.declared.extra.ExtraNeed.{ExtraNeed}
-use Rattle.attackers.specs.declared.progress.Progress.{Progress}
+use Rattle.repair.specs.declared.progress.Progress.{Progress}
 use Rattle.attackers.specs.declared.contributor_task.ContributorTask.{ContributorTask}
-use Rattle.attackers.specs.declared.serving.Step.{Step}
-use Rattle.attackers.specs.declared.serving.Step.TheVariants.{Served, Extended, Cannot}
+use Rattle.repair.specs.declared.step.Step.{Step}
+use Rattle.repair.specs.declared.step.Step.TheVariants.{Served, Widened, Cannot}
 use Rattle.attackers.specs.KnownCells.{with_known, without_known, target_of, Guards, GuardsBefore, serves, is_served}
 use Rattle.attackers.specs.Extras.{subjects_of, Unguards, IsInTurn, EachExtra, LastIsNotBehind}
 use Rattle.attackers.specs.WholeGuards.{IsWholeGuard}
@@ -46,9 +46,9 @@ abbrev pub IsReadySet : ContributorTask → List Bool → Type 0
 IsReadySet task flags = IsPermittedSet (case_of task) flags
 
 -- guards hold against the attacks before a place
-abbrev pub AreHeldBefore : ContributorTask → ℕ → Progress → Type 0
+abbrev pub AreHeldBefore : ContributorTask → ℕ → Progress WorldLine ExtraNeed → Type 0
 AreHeldBefore task place progress =
-    HoldGuards (case_of task) task.soles.now progress.hidden.flags (take place task.attacks.now) progress.guards
+    HoldGuards (case_of task) task.soles.now progress.hidden.flags (take place task.attacks.now) progress.tables
 
 -- Hiding extra cells has come to a place from the first set: the hidden set is what they made of it, each is in turn, and
 -- none is for an attack behind the place.
@@ -59,13 +59,14 @@ pub record IsExtended (c : Case) (soles : List (Option ℕ)) (prices : List ℕ)
   pub onward : LastIsNotBehind attacks extras place
 
 -- the same of a task
-abbrev pub IsExtendedUpTo : ContributorTask → ℕ → List Bool → Progress → Type 0
+abbrev pub IsExtendedUpTo : ContributorTask → ℕ → List Bool → Progress WorldLine ExtraNeed → Type 0
 IsExtendedUpTo task place first progress =
     IsExtended (case_of task) task.soles.now task.prices.now task.attacks.now first progress.hidden.flags
-    progress.extras place
+    progress.reasons place
 
 -- from whatever set hiding extra cells had come to the place, it still has
-abbrev pub IsExtensionProgress : ContributorTask → ℕ → Progress → Progress → Type 0
+abbrev pub IsExtensionProgress : ContributorTask → ℕ → Progress WorldLine ExtraNeed → Progress WorldLine ExtraNeed
+    → Type 0
 IsExtensionProgress task place before after =
     (first : List Bool) → IsExtendedUpTo task place first before → IsExtendedUpTo task place first after
 
@@ -115,14 +116,15 @@ IsUnguardedAttack task found =
     IsCannot (case_of task) task.soles.now task.attacks.now found.attack found.multipliers
 
 -- what the attack at a place comes to: a guard serves; or an extra cell more; or that no hidden set guards against it
-abbrev pub IsStep : ContributorTask → ℕ → Progress → Progress → Step → Type 0
+abbrev pub IsStep : ContributorTask → ℕ → Progress WorldLine ExtraNeed → Progress WorldLine ExtraNeed
+    → Step UnguardedAttack → Type 0
 IsStep task place before after Served = AreHeldBefore task (place + 1) after
-IsStep task place before after Extended =
+IsStep task place before after Widened =
     AreHeldBefore task place after × (shown_count after.hidden.flags < shown_count before.hidden.flags)
 IsStep task place before after (Cannot found) = IsUnguardedAttack task found
 
 -- guards hold against the attacks before a place, or no hidden set guards against one
-abbrev pub AreHeldOr : ContributorTask → ℕ → Progress → Option UnguardedAttack → Type 0
+abbrev pub AreHeldOr : ContributorTask → ℕ → Progress WorldLine ExtraNeed → Option UnguardedAttack → Type 0
 AreHeldOr task place progress None = AreHeldBefore task place progress
 AreHeldOr task place progress (Some found) = IsUnguardedAttack task found
 
@@ -142,8 +144,8 @@ IsAskedOf task flags fault row place =
     IsAsked (case_of task) task.soles.now task.attacks.now flags task.limit fault row place
 
 -- the question at some place has a fault, and hiding extra cells has come to it from the first set
-pub record IsHalted (task : ContributorTask) (first : List Bool) (progress : Progress) (fault : AskFault)
-    (row : ℕ) : Type 0 where
+pub record IsHalted (task : ContributorTask) (first : List Bool) (progress : Progress WorldLine ExtraNeed)
+    (fault : AskFault) (row : ℕ) : Type 0 where
   pub place : ℕ
   pub asked : IsAskedOf task progress.hidden.flags fault row place
   pub is_extended : IsExtendedUpTo task place first progress

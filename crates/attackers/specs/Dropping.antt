@@ -11,11 +11,11 @@ use Rattle.repair.specs.Needs.{set_when_tried}
 use Rattle.repair.specs.Stops.{Ascend}
 use Rattle.attackers.specs.declared.attack.Attack.{Attack}
 use Rattle.certificate.specs.declared.extra.ExtraNeed.{ExtraNeed}
-use Rattle.attackers.specs.declared.progress.Progress.{Progress}
+use Rattle.repair.specs.declared.progress.Progress.{Progress}
 use Rattle.attackers.specs.declared.contributor_task.ContributorTask.{ContributorTask}
 use Rattle.attackers.specs.declared.trial.Trial.{Trial}
 use Rattle.attackers.specs.declared.trial.Trial.TheVariants.{Renewed, Refused}
-use Rattle.attackers.specs.declared.trying.Findings.{Findings}
+use Rattle.repair.specs.declared.trials.Trials.{Trials}
 use Rattle.attackers.specs.KnownCells.{without_known, target_of, GuardsAll, GuardsBefore}
 use Rattle.attackers.specs.Extras.{attack_of, subjects_of, Unguards}
 use Rattle.attackers.specs.ContributorTasks.{case_of, HoldGuards, AreGuardsOf, IsReadySet, IsAsked}
@@ -38,10 +38,11 @@ cells_beside first flags n = filter (is_beside first flags) (range_with_len 0 n)
 
 -- Extra cells may be tried as shown: the first set is permitted, the task may ask of the hidden set, and guards hold
 -- against all attacks.
-pub record IsReadyToTry (task : ContributorTask) (first : List Bool) (progress : Progress) : Type 0 where
+pub record IsReadyToTry (task : ContributorTask) (first : List Bool) (progress : Progress WorldLine ExtraNeed)
+    : Type 0 where
   pub begins_permitted : IsPermitted task.cells.now first
   pub set : IsReadySet task progress.hidden.flags
-  pub holds : AreGuardsOf task progress.hidden.flags task.attacks.now progress.guards
+  pub holds : AreGuardsOf task progress.hidden.flags task.attacks.now progress.tables
 
 -- multipliers refute that a hidden set guards against the attack that a need names, as its question is answered; it is
 -- the first of these attacks that the set doesn't guard against
@@ -113,10 +114,11 @@ pub record IsTried (c : Case) (soles : List (Option ℕ)) (attacks : List Attack
   pub are_extra : All (λ cell. is_beside first larger cell ≡ true) dropped
 
 -- so far has a task come with trying extra cells, by its progress and its findings
-abbrev pub HasTried : ContributorTask → List Bool → List Bool → ℕ → Progress → Findings → Type 0
+abbrev pub HasTried : ContributorTask → List Bool → List Bool → ℕ → Progress WorldLine ExtraNeed → Trials ExtraNeed
+    → Type 0
 HasTried task first larger n progress found =
-    IsTried (case_of task) task.soles.now task.attacks.now first larger n progress.hidden.flags progress.guards
-    found.needs found.dropped
+    IsTried (case_of task) task.soles.now task.attacks.now first larger n progress.hidden.flags progress.tables
+    found.needs found.shown
 
 -- a question has a fault while a cell, the last of those dropped, is being tried
 pub record IsTryStop (c : Case) (soles : List (Option ℕ)) (attacks : List Attack) (first larger : List Bool)
@@ -137,13 +139,15 @@ TriesStopFor task first larger (Size question hidden) row dropped =
     dropped
 
 -- from whatever set the extra cells below a number had been tried, those up to it have been
-abbrev pub IsCellTrial : ContributorTask → List Bool → ℕ → Progress → Findings → Progress → Findings → Type 0
+abbrev pub IsCellTrial : ContributorTask → List Bool → ℕ → Progress WorldLine ExtraNeed → Trials ExtraNeed
+    → Progress WorldLine ExtraNeed → Trials ExtraNeed → Type 0
 IsCellTrial task first cell before found after later =
     (larger : List Bool) → HasTried task first larger cell before found
     → HasTried task first larger (cell + 1) after later
 
 -- from whatever set the extra cells below a number had been tried, trying stops with the fault
-abbrev pub IsCellTrialStop : ContributorTask → List Bool → ℕ → Progress → Findings → AskFault → ℕ → List ℕ → Type 0
+abbrev pub IsCellTrialStop : ContributorTask → List Bool → ℕ → Progress WorldLine ExtraNeed → Trials ExtraNeed
+    → AskFault → ℕ → List ℕ → Type 0
 IsCellTrialStop task first cell before found fault row dropped =
     (larger : List Bool) → HasTried task first larger cell before found
     → TriesStopFor task first larger fault row dropped

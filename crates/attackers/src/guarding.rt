@@ -1,10 +1,9 @@
-ghost use Rattle.std.specs.Prelude.{◌≡◌, ◌↔◌, ◌≤◌, IsTrue, List, Bool, length, All, IfOk, IfErr};
+ghost use Rattle.std.specs.Prelude.{◌≡◌, ◌↔◌, IsTrue, List, Bool, length, IfOk, IfErr};
 ghost use Rattle.sdc_base.specs.HiddenSets.{full_set, IsPermitted};
 ghost use Rattle.sdc_base.specs.Signs.{AreSigns};
-ghost use Rattle.cost_rule.specs.Costs.{AreCosted};
 ghost use Rattle.worlds.specs.ProtectFaults.{asked_of};
 ghost use Rattle.repair.specs.HidingOrder.{protected_case, prices_of};
-ghost use Rattle.repair.specs.KeptWorlds.{HasModestLevels};
+ghost use Rattle.repair.specs.KeptWorlds.{CanBeProtected};
 ghost use Rattle.attackers.specs.AttackOrder as order;
 ghost use Rattle.attackers.specs.KnownCells.{GuardsAll};
 ghost use Rattle.attackers.specs.ContributorTasks.{case_of, IsExtendedUpTo};
@@ -19,14 +18,14 @@ use crate::collecting::extra_of;
 use crate::contributor_task::ContributorTask;
 use crate::extra::{GuardStop, Guarded};
 use crate::order::unserved_attacks;
-use crate::progress::Progress;
 use crate::serving::guard_all;
 use crate::stopping::{out_of_memory, stop_with};
-use crate::trying::{Findings, try_all};
+use crate::trying::try_all;
+use certificate::{ExtraNeed, WorldLine};
 use cost_rule::{CostRule, TellsCosts};
 use interval_audit::SignedSystem;
 use linked_tables::Mark;
-use repair::{list_prices, questions_about, questions_of};
+use repair::{Progress, Trials, list_prices, questions_about, questions_of};
 use sdc_base::{Cell, Hidden, Items, Side, System};
 use std::alloc::Global;
 use worlds::Protected;
@@ -78,14 +77,10 @@ pub fn guard<F: TellsCosts>(
     protected: &Protected<'_>,
     limit: u64,
 ) -> Result<Guarded, GuardStop>
-    requires cells { length cells.now ≡ system.now.cells }
-    requires marks { length marks.now ≡ length cells.now }
-    requires costed { All (λ mark. AreCosted mark.facts) marks.now }
-    requires modest { All HasModestLevels cells.now }
+    requires can { CanBeProtected system.now cells.now marks.now limit }
     requires of_system { protected.now.system ≡ system.now }
     requires of_cells { protected.now.cells ≡ cells.now }
     requires each_flag { length protected.now.hidden.flags ≡ length cells.now }
-    requires limit { 1 ≤ limit }
     ensures guarded { IfOk result (IsGuarded (protected_case system.now cells.now) soles.now protected.now.hidden.flags
         protected.now.worlds) }
     ensures turns { IfOk result (IsLeftOfTurns (protected_case system.now cells.now) soles.now
@@ -174,15 +169,15 @@ fn resist(
         hidden: Hidden {
             flags: Items::new(flags),
         },
-        guards: Items::empty(alloc),
-        extras: Items::empty(alloc),
+        tables: Items::empty(alloc),
+        reasons: Items::empty(alloc),
         kept: questions_about(alloc, task.system, task.cells, first),
     };
     let outcome = guard_all(alloc, task, &mut progress);
     let found = match outcome {
         Ok(found) => found,
         Err(row_fault) => {
-            return Err(stop_with(alloc, row_fault, progress.extras, Items::empty(alloc)));
+            return Err(stop_with(alloc, row_fault, progress.reasons, Items::empty(alloc)));
         }
     };
     match found {
@@ -202,7 +197,7 @@ fn narrow(
     task: &ContributorTask<'_>,
     asked: &[(u32, Side)],
     first: &Hidden,
-    extended: Progress,
+    extended: Progress<WorldLine, ExtraNeed>,
 ) -> Result<Guarded, GuardStop>
     requires ready { IsReadyToTry task.now first.now.flags extended }
     requires asked { asked.now ≡ asked_of 0 task.now.cells.now }
@@ -212,15 +207,15 @@ fn narrow(
         task.now.attacks.now first.now.flags task.now.limit) }
 {
     let mut progress = extended;
-    let mut found = Findings {
+    let mut found = Trials {
         needs: Items::empty(alloc),
-        dropped: Items::empty(alloc),
+        shown: Items::empty(alloc),
     };
     let outcome = try_all(alloc, task, first, &mut progress, &mut found);
     if let Err(row_fault) = outcome {
-        return Err(stop_with(alloc, row_fault, progress.extras, found.dropped));
+        return Err(stop_with(alloc, row_fault, progress.reasons, found.shown));
     }
-    match extra_of(alloc, asked, progress.guards.as_slice(), found.needs) {
+    match extra_of(alloc, asked, progress.tables.as_slice(), found.needs) {
         Ok(extra) => Ok(Guarded::Guards(extra)),
         Err(_) => Err(out_of_memory(alloc)),
     }

@@ -18,7 +18,6 @@ mod laws;
 mod lines;
 mod meeting;
 mod order;
-mod progress;
 mod row_candidates;
 mod serving;
 mod stopping;

@@ -8,11 +8,10 @@ use crate::asking::{ask_against, subject_against};
 use crate::attack::{Attack, UnguardedAttack};
 use crate::contributor_task::ContributorTask;
 use crate::lines::is_served;
-use crate::progress::Progress;
 use certificate::{ExtraNeed, WorldLine};
 use interval_audit::AskFault;
 use kept_questions::{KeptAnswer, KeptQuestions};
-use repair::widen_questions;
+use repair::{Progress, Step, widen_questions};
 use sdc_base::Memory;
 use std::alloc::Global;
 use worlds::Multipliers;
@@ -24,26 +23,15 @@ pub(crate) struct RowFault {
     pub(crate) row: u32,
 }
 
-/// What asking once comes to.
-#[derive(Drop)]
-pub(crate) enum Step {
-    /// A world serves.
-    Served,
-    /// An extra cell is hidden.
-    Extended,
-    /// No hidden set guards against the attack.
-    Cannot(UnguardedAttack),
-}
-
 // Guards against all attacks in their order, hiding extra cells on the way: one that can't be met, if there is one.
 pub(crate) fn guard_all(
     alloc: Global,
     task: &ContributorTask<'_>,
-    progress: &mut Progress,
+    progress: &mut Progress<WorldLine, ExtraNeed>,
 ) -> Result<Option<UnguardedAttack>, RowFault>
     requires ready { IsReadySet task.now progress.old.hidden.flags }
-    requires no_guards { progress.old.guards ≡ [] }
-    requires no_extras { progress.old.extras ≡ [] }
+    requires no_guards { progress.old.tables ≡ [] }
+    requires no_extras { progress.old.reasons ≡ [] }
     ensures ready { IsReadySet task.now progress.new.hidden.flags }
     ensures ok { IfOk result (λ found. AreHeldOr task.now (length task.now.attacks.now) progress.new found) }
     ensures extended { IfOk result (λ _. IsExtendedUpTo task.now (length task.now.attacks.now)
@@ -65,7 +53,7 @@ fn guard_at(
     alloc: Global,
     task: &ContributorTask<'_>,
     place: usize,
-    progress: &mut Progress,
+    progress: &mut Progress<WorldLine, ExtraNeed>,
 ) -> Result<Option<UnguardedAttack>, RowFault>
     requires place { place < length task.now.attacks.now }
     requires ready { IsReadySet task.now progress.old.hidden.flags }
@@ -80,7 +68,7 @@ fn guard_at(
         let step = guard_once(alloc, task, place, progress)?;
         match step {
             Step::Served => return Ok(None),
-            Step::Extended => widen_questions(
+            Step::Widened => widen_questions(
                 alloc,
                 task.system,
                 task.cells,
@@ -98,8 +86,8 @@ fn guard_once(
     alloc: Global,
     task: &ContributorTask<'_>,
     place: usize,
-    progress: &mut Progress,
-) -> Result<Step, RowFault>
+    progress: &mut Progress<WorldLine, ExtraNeed>,
+) -> Result<Step<UnguardedAttack>, RowFault>
     requires place { place < length task.now.attacks.now }
     requires ready { IsReadySet task.now progress.old.hidden.flags }
     requires held { AreHeldBefore task.now place progress.old }
@@ -110,7 +98,7 @@ fn guard_once(
         (λ row_fault. IsAskedOf task.now progress.new.hidden.flags row_fault.fault row_fault.row place) }
 {
     let attack = attack_at(task, place);
-    if is_served(task.cells, task.soles, attack, progress.guards.as_slice()) {
+    if is_served(task.cells, task.soles, attack, progress.tables.as_slice()) {
         return Ok(Step::Served);
     }
     let answer = answer_against(
@@ -173,8 +161,8 @@ fn step_by(
     attack: Attack,
     place: usize,
     answer: KeptAnswer,
-    progress: &mut Progress,
-) -> Result<Step, Memory>
+    progress: &mut Progress<WorldLine, ExtraNeed>,
+) -> Result<Step<UnguardedAttack>, Memory>
     requires ready { IsReadySet task.now progress.old.hidden.flags }
     requires held { AreHeldBefore task.now place progress.old }
     requires stands { slice_get task.now.attacks.now place ≡ Some attack }
@@ -206,8 +194,8 @@ fn extend(
     attack: Attack,
     place: usize,
     multipliers: Multipliers,
-    progress: &mut Progress,
-) -> Result<Step, Memory>
+    progress: &mut Progress<WorldLine, ExtraNeed>,
+) -> Result<Step<UnguardedAttack>, Memory>
     requires ready { IsReadySet task.now progress.old.hidden.flags }
     requires held { AreHeldBefore task.now place progress.old }
     requires refuted { IsRefutedAt (case_of task.now) task.now.soles.now task.now.attacks.now
@@ -225,14 +213,15 @@ fn extend(
             multipliers,
         })),
         Some(subject) => {
-            progress.extend(ExtraNeed {
+            let extra = ExtraNeed {
                 subject,
                 row: attack.row,
                 cell: attack.cell,
                 side: attack.side,
                 multipliers,
-            })?;
-            Ok(Step::Extended)
+            };
+            progress.hide_for(subject, extra)?;
+            Ok(Step::Widened)
         }
     }
 }

@@ -1,48 +1,39 @@
-ghost use Rattle.std.specs.Prelude.{◌≡◌, ◌+◌, ◌<◌, ◌++◌, ◌∷◌, [], ℕ, List, true, length, IfErr, OnOk};
-ghost use Rattle.sdc_base.specs.HiddenSets.{is_hidden, hide};
+ghost use Rattle.std.specs.Prelude.{◌≡◌, ◌<◌, ◌++◌, [], ℕ, true, length, IfErr, OnOk};
+ghost use Rattle.sdc_base.specs.HiddenSets.{is_hidden};
 ghost use Rattle.attackers.specs.ContributorTasks.{IsReadySet};
 ghost use Rattle.attackers.specs.Dropping.{is_beside, renewed_guards, IsReadyToTry, HasTried, TriesStopFor, IsCellTrial, IsCellTrialStop};
 
 use crate::attempt::Attempt;
 use crate::contributor_task::ContributorTask;
 use crate::lines::drop_moved;
-use crate::progress::Progress;
 use crate::serving::RowFault;
 use crate::trial::{Trial, ask_anew};
 use certificate::{ExtraNeed, WorldLine};
 use interval_audit::AskFault;
+use repair::{Progress, Trials};
 use sdc_base::{Hidden, Items, Memory, is_hidden};
 use std::alloc::Global;
-
-/// What was found of the extra cells.
-#[derive(Drop)]
-pub(crate) struct Findings {
-    /// Why cells must stay hidden.
-    pub(crate) needs: Items<ExtraNeed>,
-    /// The cells that are dropped.
-    pub(crate) dropped: Items<u32>,
-}
 
 // Tries each extra cell as shown, in ascending order.
 pub(crate) fn try_all(
     alloc: Global,
     task: &ContributorTask<'_>,
     first: &Hidden,
-    progress: &mut Progress,
-    found: &mut Findings,
+    progress: &mut Progress<WorldLine, ExtraNeed>,
+    found: &mut Trials<ExtraNeed>,
 ) -> Result<(), RowFault>
     requires ready { IsReadyToTry task.now first.now.flags progress.old }
     requires within { (cell : ℕ) → is_hidden first.now.flags cell ≡ true
         → is_hidden progress.old.hidden.flags cell ≡ true }
     requires no_needs { found.old.needs ≡ [] }
-    requires none_dropped { found.old.dropped ≡ [] }
-    ensures extras { progress.new.extras ≡ progress.old.extras }
+    requires none_dropped { found.old.shown ≡ [] }
+    ensures reasons { progress.new.reasons ≡ progress.old.reasons }
     ensures set { OnOk result (IsReadySet task.now progress.new.hidden.flags) }
     ensures ok { OnOk result (HasTried task.now first.now.flags progress.old.hidden.flags
         (length task.now.cells.now) progress.new found.new) }
     ensures err { IfErr result
         (λ row_fault. TriesStopFor task.now first.now.flags progress.old.hidden.flags row_fault.fault
-        row_fault.row found.new.dropped) }
+        row_fault.row found.new.shown) }
 {
     'cells: for number in 0..task.cells.len() {
         let cell = number as u32;
@@ -68,21 +59,21 @@ fn try_one(
     task: &ContributorTask<'_>,
     first: &Hidden,
     cell: u32,
-    progress: &mut Progress,
-    found: &mut Findings,
+    progress: &mut Progress<WorldLine, ExtraNeed>,
+    found: &mut Trials<ExtraNeed>,
 ) -> Result<(), RowFault>
     requires inside { cell < length task.now.cells.now }
     requires extra { is_beside first.now.flags progress.old.hidden.flags cell ≡ true }
     requires ready { IsReadyToTry task.now first.now.flags progress.old }
-    ensures extras { progress.new.extras ≡ progress.old.extras }
+    ensures reasons { progress.new.reasons ≡ progress.old.reasons }
     ensures set { OnOk result (IsReadySet task.now progress.new.hidden.flags) }
     ensures ok { OnOk result (IsCellTrial task.now first.now.flags cell progress.old found.old progress.new
         found.new) }
     ensures err { IfErr result
         (λ row_fault. IsCellTrialStop task.now first.now.flags cell progress.old found.old row_fault.fault
-        row_fault.row found.new.dropped) }
+        row_fault.row found.new.shown) }
 {
-    let Ok(()) = found.dropped.push(cell) else {
+    let Ok(()) = found.shown.push(cell) else {
         return Err(out_of_memory());
     };
     progress.hidden.show(cell);
@@ -90,12 +81,15 @@ fn try_one(
         task,
         cell,
         hidden: &progress.hidden,
-        guards: progress.guards.as_slice(),
+        guards: progress.tables.as_slice(),
     };
     let trial = ask_anew(alloc, &attempt, &mut progress.kept)?;
     match trial {
         Trial::Renewed(news) => take_new(alloc, cell, news, progress),
-        Trial::Refused(need) => put_back(cell, need, progress, found),
+        Trial::Refused(need) => match found.put_back(&mut progress.hidden, cell, need) {
+            Ok(()) => Ok(()),
+            Err(_) => Err(out_of_memory()),
+        },
     }
 }
 
@@ -114,14 +108,14 @@ fn take_new(
     alloc: Global,
     cell: u32,
     news: Items<WorldLine>,
-    progress: &mut Progress,
+    progress: &mut Progress<WorldLine, ExtraNeed>,
 ) -> Result<(), RowFault>
     ensures flags { progress.new.hidden.flags ≡ progress.old.hidden.flags }
-    ensures extras { progress.new.extras ≡ progress.old.extras }
-    ensures guards { OnOk result (progress.new.guards ≡ renewed_guards cell progress.old.guards news) }
+    ensures reasons { progress.new.reasons ≡ progress.old.reasons }
+    ensures tables { OnOk result (progress.new.tables ≡ renewed_guards cell progress.old.tables news) }
     ensures err { IfErr result (λ row_fault. row_fault.fault ≡ AskFault.Memory) }
 {
-    match replace_guards(alloc, cell, news, &mut progress.guards) {
+    match replace_guards(alloc, cell, news, &mut progress.tables) {
         Ok(()) => Ok(()),
         Err(_) => Err(out_of_memory()),
     }
@@ -148,28 +142,5 @@ fn add_all(lines: &mut Items<WorldLine>, news: Items<WorldLine>) -> Result<(), M
     'news: for line in news.into_vec() {
         lines.push(line)?;
     }
-    Ok(())
-}
-
-// Hides a cell again, and keeps the need.
-fn put_back(
-    cell: u32,
-    need: ExtraNeed,
-    progress: &mut Progress,
-    found: &mut Findings,
-) -> Result<(), RowFault>
-    ensures flags { progress.new.hidden.flags ≡ hide progress.old.hidden.flags cell }
-    ensures guards { progress.new.guards ≡ progress.old.guards }
-    ensures extras { progress.new.extras ≡ progress.old.extras }
-    ensures needs { OnOk result (found.new.needs ≡ found.old.needs ++ need ∷ []) }
-    ensures dropped { OnOk result ((earlier : List ℕ) (last : ℕ) → found.old.dropped ≡ earlier ++ last ∷ []
-        → found.new.dropped ≡ earlier) }
-    ensures err { IfErr result (λ row_fault. row_fault.fault ≡ AskFault.Memory) }
-{
-    progress.hidden.hide(cell);
-    found.dropped.pop();
-    let Ok(()) = found.needs.push(need) else {
-        return Err(out_of_memory());
-    };
     Ok(())
 }

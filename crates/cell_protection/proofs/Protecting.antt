@@ -1,6 +1,9 @@
 -- What planning and protecting come to, from what the plan and the protection say.
-use Rattle.std.proofs.Common.{Result, Ok, Err, IfOk, ◌≡◌, ℕ, List, [], ◌∷◌, map, refl, ap, ap₂, sym, ◌∙◌, subst}
+use Rattle.std.proofs.Common.{Result, Ok, Err, IfOk, ◌≡◌, ℕ, List, [], ◌∷◌, map, All, arith, refl, ap, ap₂, sym, ◌∙◌, subst}
 use Rattle.std.specs.List.{AllByRecursion}
+use Rattle.std.proofs.lemmas.Int.{ints}
+use Rattle.std.proofs.lemmas.List.Elements.{All-weaker}
+use Rattle.apriori.specs.CellLevels.{HasLevelsInRange}
 use Rattle.sdc_base.specs.declared.cell.Cell.{Cell}
 use Rattle.sdc_base.specs.declared.system.System.{System}
 use Rattle.sdc_base.specs.declared.trail.PlanStep.{PlanStep}
@@ -15,6 +18,7 @@ use Rattle.modular_plan.specs.StepLaws.{IsWholeStep}
 use Rattle.modular_plan.proofs.WholeSteps.{steps_are_whole}
 use Rattle.sdc_base.specs.Trails.{corners_of}
 use Rattle.repair.specs.HidingOrder.{Case, protected_case, hide_subjects, planned_set, prices_of}
+use Rattle.repair.specs.KeptWorlds.{HasModestLevels}
 use Rattle.repair.specs.Stops.{StopsFor}
 use Rattle.repair.specs.Verdicts.{IsVerdict}
 use Rattle.repair.specs.declared.stopped.Stopped.{Stopped}
@@ -67,6 +71,10 @@ pub stop-moves : (system : System) (cells : List Cell) (cost : CostKind) (book :
 stop-moves system cells cost book new marks method limit steps stopped are facts made is =
     subst (λ (prices : List ℕ). StopsFor (protected_case system cells) prices (planned_set cells (corners_of (trail_of book cells cost (passes_of method)))) limit stopped.fault stopped.repairs stopped.shown) (moved-prices cells cost book.marks new marks are facts)
     (subst (λ (all : List PlanStep). StopsFor (protected_case system cells) (prices_of cost cells marks) (planned_set cells (corners_of all)) limit stopped.fault stopped.repairs stopped.shown) made is)
+
+-- levels within the limits of a job are modest
+pub modest-levels : (cells : List Cell) → All HasLevelsInRange cells → All HasModestLevels cells
+modest-levels cells all = All-weaker HasLevelsInRange HasModestLevels (λ cell own. record { up = omega (arith, ints, own.up); down = omega (arith, ints, own.down) }) cells all
 
 -- what holds of a result, where something else of it does
 pub if-ok : {T E : Type 0} (P Q : T → Type 0) (r : Result T E) → ((x : T) → P x → Q x) → IfOk r P → IfOk r Q

@@ -73,15 +73,15 @@ first_more planned repairs repair set is = record {
   set_is = is.set_is;
 }
 
-pub none_up_to : (task : Task) (progress : Progress) → progress.worlds ≡ [] → progress.repairs ≡ [] → IsRepairedUpTo task 0 progress.hidden.flags progress
+pub none_up_to : (task : Task) (progress : Progress World Refuted) → progress.tables ≡ [] → progress.reasons ≡ [] → IsRepairedUpTo task 0 progress.hidden.flags progress
 none_up_to task progress no_worlds no_repairs = record {
   is_repaired = subst (λ (r : List Refuted). IsRepaired (case_of task) task.prices.now progress.hidden.flags progress.hidden.flags r 0) (sym no_repairs) (none_repaired (case_of task) task.prices.now progress.hidden.flags);
-  answers = subst (AreAnswers (case_of task) (IsOfFirst progress.hidden.flags progress.repairs) (asked_of 0 task.cells.now)) (sym no_worlds) tt;
+  answers = subst (AreAnswers (case_of task) (IsOfFirst progress.hidden.flags progress.reasons) (asked_of 0 task.cells.now)) (sym no_worlds) tt;
 }
 
-pub up_to_next : (task : Task) (place : ℕ) (planned : List Bool) (progress : Progress) → IsRepairedUpTo task place planned progress → IsRepairedUpTo task (place + 1) planned progress
+pub up_to_next : (task : Task) (place : ℕ) (planned : List Bool) (progress : Progress World Refuted) → IsRepairedUpTo task place planned progress → IsRepairedUpTo task (place + 1) planned progress
 up_to_next task place planned progress is = record {
-  is_repaired = on_to_next (case_of task) task.prices.now planned progress.hidden.flags progress.repairs place is.is_repaired;
+  is_repaired = on_to_next (case_of task) task.prices.now planned progress.hidden.flags progress.reasons place is.is_repaired;
   answers = is.answers;
 }
 

@@ -383,11 +383,6 @@ all_needed c larger flags needs shown is = record {
 
 -- ---- what the code finds
 
--- two facts on a good answer
-pub on_ok_two : {A F : Type 0} {P Q R : Type 0} (r : Result A F) → OnOk r P → OnOk r Q → (P → Q → R) → OnOk r R
-on_ok_two (Ok x) p q both = both p q
-on_ok_two (Err e) p q both = tt
-
 -- a cell that isn't free is no hidden one but a primary one
 pub other_kind : (kind : Kind) (hidden : Bool) → is_free kind ≡ false → (kind ≡ Fixed → hidden ≡ false) → (hidden && not (is_primary kind)) ≡ false
 other_kind Primary true not_free fixed = refl

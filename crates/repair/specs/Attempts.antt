@@ -40,8 +40,8 @@ pub record IsTriedSet (c : Case) (flags : List Bool) (worlds : List World) : Typ
 
 -- nothing is found of the cells yet
 pub record IsUntried (task : Task) (tried : Findings) : Type 0 where
-  pub no_needs : tried.needs ≡ []
-  pub none_shown : tried.shown ≡ []
+  pub no_needs : tried.trials.needs ≡ []
+  pub none_shown : tried.trials.shown ≡ []
   pub no_spares : tried.reusable.items ≡ []
   pub last : AreLast (case_of task) tried.last.items
 
@@ -54,8 +54,8 @@ pub record AreAtHand (task : Task) (worlds : List World) (spare : List ReusableT
   pub last : AreLast (case_of task) earlier
 
 -- a protection is ready to try a cell, with the worlds that are kept, the spare ones and the last ones
-pub record IsReadyToTry (task : Task) (progress : Progress) (tried : Findings) : Type 0 where
-  pub set : IsTriedSet (case_of task) progress.hidden.flags progress.worlds
+pub record IsReadyToTry (task : Task) (progress : Progress World Refuted) (tried : Findings) : Type 0 where
+  pub set : IsTriedSet (case_of task) progress.hidden.flags progress.tables
   pub reusable : AreReusableTables (case_of task) tried.reusable.items
   pub last : AreLast (case_of task) tried.last.items
 
@@ -65,20 +65,20 @@ is_open_at cells flags number =
     option_map_or (λ cell. is_free cell.kind) (slice_get cells number) false && is_hidden flags number
 
 -- from whatever set the cells below a number had been tried, those up to it have been
-abbrev pub IsCellTrial : Task → ℕ → Progress → Findings → Progress → Findings → Type 0
+abbrev pub IsCellTrial : Task → ℕ → Progress World Refuted → Findings → Progress World Refuted → Findings → Type 0
 IsCellTrial task cell before tried after found =
     (larger : List Bool) → HasTried task larger cell before tried → HasTried task larger (cell + 1) after found
 
 -- from whatever set the cells below a number had been tried, trying stops with the fault
-abbrev pub IsCellTrialStop : Task → ℕ → Progress → Findings → AskFault → List ℕ → Type 0
+abbrev pub IsCellTrialStop : Task → ℕ → Progress World Refuted → Findings → AskFault → List ℕ → Type 0
 IsCellTrialStop task cell before tried fault shown =
     (larger : List Bool) → HasTried task larger cell before tried
     → TriesStopFor (case_of task) larger task.limit fault shown
 
 -- all cells have been tried, from this set on
-abbrev pub HasTriedAll : Task → List Bool → Progress → Findings → Type 0
+abbrev pub HasTriedAll : Task → List Bool → Progress World Refuted → Findings → Type 0
 HasTriedAll task larger progress tried =
-    IsTried (case_of task) larger (length task.cells.now) progress.hidden.flags tried.needs tried.shown
+    IsTried (case_of task) larger (length task.cells.now) progress.hidden.flags tried.trials.needs tried.trials.shown
 
 -- where spare worlds are answers of trials of the cells below a number, the last of them with this set, the later ones
 -- are too
@@ -100,7 +100,7 @@ StayOnWayWith task flags reusable worlds later =
     → AnswerTrials task planned repairs flags reusable → AnswerOnWay task planned repairs flags later
 
 -- where a protection has repaired for all that is asked, its worlds are answers for sets on the way to the later set
-abbrev pub KeepsAnswers : Task → Progress → Progress → Type 0
+abbrev pub KeepsAnswers : Task → Progress World Refuted → Progress World Refuted → Type 0
 KeepsAnswers task before after =
     (planned : List Bool) → IsRepairedForAll task planned before
-    → AnswerOnWay task planned before.repairs after.hidden.flags after.worlds
+    → AnswerOnWay task planned before.reasons after.hidden.flags after.tables

@@ -144,8 +144,9 @@ pub record IsTried (c : Case) (larger : List Bool) (n : ℕ) (flags : List Bool)
   pub are_open : All (λ cell. is_hidden larger cell ≡ true) shown
 
 -- so far has a task come with trying cells, by its progress and its findings; spare worlds are answers of trials
-pub record HasTried (task : Task) (larger : List Bool) (n : ℕ) (progress : Progress) (tried : Findings) : Type 0 where
-  pub are_tried : IsTried (case_of task) larger n progress.hidden.flags tried.needs tried.shown
+pub record HasTried (task : Task) (larger : List Bool) (n : ℕ) (progress : Progress World Refuted) (tried : Findings)
+    : Type 0 where
+  pub are_tried : IsTried (case_of task) larger n progress.hidden.flags tried.trials.needs tried.trials.shown
   pub answers : AreTrialAnswers (case_of task) larger n progress.hidden.flags tried.reusable.items
 
 -- a question has a fault while a cell, the last of those shown, is being tried, or once all have been tried

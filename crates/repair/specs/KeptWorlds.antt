@@ -7,6 +7,8 @@ use Rattle.sdc_base.specs.declared.cell.Cell.{Cell}
 use Rattle.sdc_base.specs.declared.cell.Kind.TheVariants.{Primary}
 use Rattle.sdc_base.specs.declared.side.Side.{Side}
 use Rattle.sdc_base.specs.declared.system.System.{System}
+use Rattle.cost_rule.specs.Costs.{AreCosted}
+use Rattle.linked_tables.specs.declared.mark.Mark.{Mark}
 use Rattle.worlds.specs.declared.multipliers.Multipliers.{Multipliers}
 use Rattle.worlds.specs.declared.refuted.Refuted.{Refuted}
 use Rattle.worlds.specs.declared.world.World.{World}
@@ -21,6 +23,15 @@ use Rattle.repair.specs.Repairs.{AreRepairs, LastIsNotBehind}
 pub record HasModestLevels (cell : Cell) : Type 0 where
   pub up : cell.up ≤ℤ pos (2 ^ 110)
   pub down : cell.down ≤ℤ pos (2 ^ 110)
+
+-- What can be protected: there are a cell and a mark for each cell of the system, the marks have facts that a rule may
+-- be asked about, levels are modest, and a question may take a step.
+pub record CanBeProtected (system : System) (cells : List Cell) (marks : List Mark) (limit : ℕ) : Type 0 where
+  pub each_cell : length cells ≡ system.cells
+  pub each_mark : length marks ≡ length cells
+  pub costed : All (λ mark. AreCosted mark.facts) marks
+  pub modest : All HasModestLevels cells
+  pub some_steps : 1 ≤ limit
 
 -- what a protection works on fits together: one entry for each cell of the system, modest levels, and the order of
 -- questions

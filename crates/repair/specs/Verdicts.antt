@@ -5,6 +5,7 @@ use Rattle.sdc_base.specs.HiddenSets.{full_set, IsPermitted}
 use Rattle.sdc_base.specs.Worlds.{Protects}
 use Rattle.worlds.specs.declared.multipliers.Multipliers.{Multipliers}
 use Rattle.worlds.specs.declared.refuted.Refuted.{Refuted}
+use Rattle.worlds.specs.declared.world.World.{World}
 use Rattle.worlds.specs.Protection.{Protection}
 use Rattle.worlds.specs.ProtectFaults.{asked_of, IsProtecting}
 use Rattle.repair.specs.KeptWorlds.{AreServed, IsStopped}
@@ -55,12 +56,13 @@ pub record AreNeeds (c : Case) (flags larger : List Bool) (needs : List Refuted)
 
 -- A hidden set is narrowed to what is needed: its repairs are justified and in order from the planned set, it holds
 -- nothing beyond the planned set and their subjects, and each hidden cell that isn't primary is needed.
-pub record IsNarrowed (task : Task) (planned : List Bool) (progress : Progress) (needs : List Refuted) : Type 0 where
-  pub are_repairs : AreRepairs (case_of task) task.prices.now planned progress.repairs
-  pub within : IsSubset progress.hidden.flags (hide_subjects planned progress.repairs)
-  pub are_needs : AreNeeds (case_of task) progress.hidden.flags (hide_subjects planned progress.repairs) needs
-  pub answers : AreAnswers (case_of task) (IsOnWay (case_of task) planned progress.repairs progress.hidden.flags)
-      (asked_of 0 task.cells.now) progress.worlds
+pub record IsNarrowed (task : Task) (planned : List Bool) (progress : Progress World Refuted) (needs : List Refuted)
+    : Type 0 where
+  pub are_repairs : AreRepairs (case_of task) task.prices.now planned progress.reasons
+  pub within : IsSubset progress.hidden.flags (hide_subjects planned progress.reasons)
+  pub are_needs : AreNeeds (case_of task) progress.hidden.flags (hide_subjects planned progress.reasons) needs
+  pub answers : AreAnswers (case_of task) (IsOnWay (case_of task) planned progress.reasons progress.hidden.flags)
+      (asked_of 0 task.cells.now) progress.tables
 
 -- what a protection that began with this set comes to
 abbrev pub IsVerdict : Case → List ℕ → List Bool → Verdict → Type 0

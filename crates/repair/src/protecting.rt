@@ -1,11 +1,10 @@
-ghost use Rattle.std.specs.Prelude.{◌≡◌, ◌↔◌, ◌≤◌, IsTrue, List, Bool, length, All, IfOk, IfErr};
+ghost use Rattle.std.specs.Prelude.{◌≡◌, ◌↔◌, IsTrue, List, Bool, length, All, IfOk, IfErr};
 ghost use Rattle.sdc_base.specs.HiddenSets.{IsPermitted, full_set};
-ghost use Rattle.cost_rule.specs.Costs.{AreCosted};
 ghost use Rattle.sdc_base.specs.HiddenSets.{MayHide};
 ghost use Rattle.sdc_base.specs.Signs.{AreSigns};
 ghost use Rattle.sdc_base.specs.Trails.{corners_of};
 ghost use Rattle.repair.specs.HidingOrder.{protected_case, prices_of, planned_set, ProtectsAll};
-ghost use Rattle.repair.specs.KeptWorlds.{HasModestLevels};
+ghost use Rattle.repair.specs.KeptWorlds.{CanBeProtected};
 ghost use Rattle.repair.specs.Tasks.{case_of};
 ghost use Rattle.repair.specs.Stops.{IsStopAsTold};
 ghost use Rattle.repair.specs.QuestionSteps.{IsRepairedForAll};
@@ -22,6 +21,7 @@ use crate::questions::questions_of;
 use crate::serving::serve_all;
 use crate::stopped::{Stopped, out_of_memory, stop_with};
 use crate::task::Task;
+use crate::trials::Trials;
 use crate::trying::{Findings, try_all};
 use crate::verdict::Verdict;
 use cost_rule::{CostRule, TellsCosts};
@@ -29,7 +29,7 @@ use interval_audit::SignedSystem;
 use linked_tables::Mark;
 use sdc_base::{Cell, Hidden, Items, System, Trail};
 use std::alloc::Global;
-use worlds::{Protected, Refuted};
+use worlds::{Protected, Refuted, World};
 
 /// Hides cells until each primary cell is open to both sides by its levels, and shows those that needn't be hidden.
 ///
@@ -84,12 +84,8 @@ pub fn protect<'a, F: TellsCosts>(
     trail: &Trail,
     limit: u64,
 ) -> Result<Verdict<'a>, Stopped>
-    requires cells { length cells.now ≡ system.now.cells }
-    requires marks { length marks.now ≡ length cells.now }
-    requires costed { All (λ mark. AreCosted mark.facts) marks.now }
-    requires modest { All HasModestLevels cells.now }
+    requires can { CanBeProtected system.now cells.now marks.now limit }
     requires corners { All (MayHide cells.now) (corners_of trail.now.steps) }
-    requires limit { 1 ≤ limit }
     ensures verdict { IfOk result (λ verdict. IsVerdict (protected_case system.now cells.now)
         (prices_of rule.now cells.now marks.now) (planned_set cells.now (corners_of trail.now.steps)) verdict) }
     ensures cannot { IfOk result (λ verdict. IsTrue (is_cannot verdict)
@@ -143,15 +139,15 @@ fn repaired_verdict<'a>(
     let kept = questions_about(alloc, task.system, task.cells, &hidden);
     let mut progress = Progress {
         hidden,
-        worlds: Items::empty(alloc),
-        repairs: Items::empty(alloc),
+        tables: Items::empty(alloc),
+        reasons: Items::empty(alloc),
         kept,
     };
     let outcome = serve_all(alloc, task, scratch, &mut progress);
     let found = match outcome {
         Ok(found) => found,
         Err(fault) => {
-            return Err(stop_with(alloc, fault, progress.repairs, Items::empty(alloc)));
+            return Err(stop_with(alloc, fault, progress.reasons, Items::empty(alloc)));
         }
     };
     match found {
@@ -168,11 +164,11 @@ fn repaired_verdict<'a>(
 fn narrowed_verdict<'a>(
     alloc: Global,
     task: &Task<'a, '_>,
-    repaired: Progress,
+    repaired: Progress<World, Refuted>,
     scratch: &mut [i128],
 ) -> Result<Verdict<'a>, Stopped>
     requires scratch { length scratch.old ≡ task.now.system.now.cells }
-    requires served { IsServedSet (case_of task.now) repaired.hidden.flags repaired.worlds }
+    requires served { IsServedSet (case_of task.now) repaired.hidden.flags repaired.tables }
     ensures verdict { IfOk result (λ verdict. (planned : List Bool) → IsRepairedForAll task.now planned repaired
         → IsVerdict (case_of task.now) task.now.prices.now planned verdict) }
     ensures stopped { IfErr result (λ stopped. (planned : List Bool) → IsRepairedForAll task.now planned repaired
@@ -180,27 +176,29 @@ fn narrowed_verdict<'a>(
 {
     let mut progress = repaired;
     let mut tried = Findings {
-        needs: Items::empty(alloc),
-        shown: Items::empty(alloc),
+        trials: Trials {
+            needs: Items::empty(alloc),
+            shown: Items::empty(alloc),
+        },
         reusable: Vec::new(alloc),
         last: no_last(alloc, task.questions.len()),
     };
     let outcome = try_all(alloc, task, &mut progress, &mut tried);
     if let Err(fault) = outcome {
-        return Err(stop_with(alloc, fault, progress.repairs, tried.shown));
+        return Err(stop_with(alloc, fault, progress.reasons, tried.trials.shown));
     }
-    Ok(verdict_of(task, progress, tried.needs, scratch))
+    Ok(verdict_of(task, progress, tried.trials.needs, scratch))
 }
 
 // The verdict that a hidden set protects, by the worlds that are kept for all questions.
 fn verdict_of<'a>(
     task: &Task<'a, '_>,
-    progress: Progress,
+    progress: Progress<World, Refuted>,
     needs: Items<Refuted>,
     scratch: &mut [i128],
 ) -> Verdict<'a>
     requires scratch { length scratch.old ≡ task.now.system.now.cells }
-    requires served { IsServedSet (case_of task.now) progress.hidden.flags progress.worlds }
+    requires served { IsServedSet (case_of task.now) progress.hidden.flags progress.tables }
     ensures { (planned : List Bool) → IsNarrowed task.now planned progress needs
         → IsVerdict (case_of task.now) task.now.prices.now planned result }
 {
@@ -208,12 +206,12 @@ fn verdict_of<'a>(
         task.system.system(),
         task.cells,
         progress.hidden,
-        progress.worlds,
+        progress.tables,
         scratch,
     ) {
         Ok(protected) => Verdict::Protected {
             protected,
-            repairs: progress.repairs,
+            repairs: progress.reasons,
             needs,
         },
         Err(_) => unreachable!(),

@@ -11,42 +11,32 @@ ghost use Rattle.repair.specs.QuestionSteps.{IsReadyForRepair, IsRepairedUpTo, I
 use crate::asking::{LevelQuestion, ask_level, widen_questions};
 use crate::cheapest::subject_of;
 use crate::progress::Progress;
+use crate::step::Step;
 use crate::task::Task;
 use crate::unprotected_cell::UnprotectedCell;
 use interval_audit::{AskFault, Question};
 use kept_questions::KeptAnswer;
 use sdc_base::{Cell, Memory, Side};
 use std::alloc::Global;
-use worlds::{Multipliers, Refuted};
-
-/// What asking once comes to.
-#[derive(Drop)]
-pub(crate) enum Step {
-    /// A world is kept for the question.
-    Served,
-    /// A cell more is hidden.
-    Repaired,
-    /// The cell can't be protected.
-    Cannot(UnprotectedCell),
-}
+use worlds::{Multipliers, Refuted, World};
 
 // Asks all questions in their order, hiding cells on the way: a cell that can't be protected, if there is one.
 pub(crate) fn serve_all(
     alloc: Global,
     task: &Task<'_, '_>,
     scratch: &mut [i128],
-    progress: &mut Progress,
+    progress: &mut Progress<World, Refuted>,
 ) -> Result<Option<UnprotectedCell>, AskFault>
     requires ready { IsReadyForRepair task.now scratch.old progress.old }
-    requires no_worlds { progress.old.worlds ≡ [] }
-    requires no_repairs { progress.old.repairs ≡ [] }
+    requires no_worlds { progress.old.tables ≡ [] }
+    requires no_repairs { progress.old.reasons ≡ [] }
     ensures ready { IsReadyForRepair task.now scratch.new progress.new }
     ensures ok { IfOk result (λ found. AreServedOrUnprotected (case_of task.now) (length task.now.questions.now)
-        progress.new.hidden.flags progress.new.worlds found) }
+        progress.new.hidden.flags progress.new.tables found) }
     ensures repaired { IfOk result (λ _. IsRepairedUpTo task.now (length task.now.questions.now)
         progress.old.hidden.flags progress.new) }
     ensures err { IfErr result (λ fault. IsHalted (case_of task.now) task.now.prices.now progress.old.hidden.flags
-        progress.new.hidden.flags progress.new.repairs task.now.limit fault) }
+        progress.new.hidden.flags progress.new.reasons task.now.limit fault) }
 {
     'places: for place in 0..task.questions.len() {
         let found = serve(alloc, task, place, scratch, progress)?;
@@ -63,15 +53,15 @@ fn serve(
     task: &Task<'_, '_>,
     place: usize,
     scratch: &mut [i128],
-    progress: &mut Progress,
+    progress: &mut Progress<World, Refuted>,
 ) -> Result<Option<UnprotectedCell>, AskFault>
     requires place { place < length task.now.questions.now }
     requires ready { IsReadyForRepair task.now scratch.old progress.old }
-    requires served { AreServedBefore (case_of task.now) progress.old.hidden.flags place progress.old.worlds }
+    requires served { AreServedBefore (case_of task.now) progress.old.hidden.flags place progress.old.tables }
     ensures ready { IsReadyForRepair task.now scratch.new progress.new }
     ensures repaired { IsRepairProgress task.now place progress.old progress.new }
     ensures ok { IfOk result (λ found. AreServedOrUnprotected (case_of task.now) (place + 1) progress.new.hidden.flags
-        progress.new.worlds found) }
+        progress.new.tables found) }
     ensures err { IfErr result (λ fault. IsQuestion (case_of task.now) progress.new.hidden.flags task.now.limit fault
         place) }
 {
@@ -79,7 +69,7 @@ fn serve(
         let step = ask_once(alloc, task, place, scratch, progress)?;
         match step {
             Step::Served => return Ok(None),
-            Step::Repaired => widen_questions(
+            Step::Widened => widen_questions(
                 alloc,
                 task.system,
                 task.cells,
@@ -97,15 +87,15 @@ fn ask_once(
     task: &Task<'_, '_>,
     place: usize,
     scratch: &mut [i128],
-    progress: &mut Progress,
-) -> Result<Step, AskFault>
+    progress: &mut Progress<World, Refuted>,
+) -> Result<Step<UnprotectedCell>, AskFault>
     requires place { place < length task.now.questions.now }
     requires ready { IsReadyForRepair task.now scratch.old progress.old }
-    requires served { AreServedBefore (case_of task.now) progress.old.hidden.flags place progress.old.worlds }
+    requires served { AreServedBefore (case_of task.now) progress.old.hidden.flags place progress.old.tables }
     ensures ready { IsReadyForRepair task.now scratch.new progress.new }
     ensures repaired { IsRepairProgress task.now place progress.old progress.new }
     ensures ok { IfOk result (λ step. IsStep (case_of task.now) place progress.old.hidden.flags
-        progress.new.hidden.flags progress.new.worlds step) }
+        progress.new.hidden.flags progress.new.tables step) }
     ensures err { IfErr result (λ fault. IsQuestion (case_of task.now) progress.new.hidden.flags task.now.limit fault
         place) }
 {
@@ -139,15 +129,15 @@ fn hide_one(
     place: usize,
     multipliers: Multipliers,
     scratch: &mut [i128],
-    progress: &mut Progress,
-) -> Result<Step, Memory>
+    progress: &mut Progress<World, Refuted>,
+) -> Result<Step<UnprotectedCell>, Memory>
     requires ready { IsReadyForRepair task.now scratch.old progress.old }
-    requires served { AreServedBefore (case_of task.now) progress.old.hidden.flags place progress.old.worlds }
+    requires served { AreServedBefore (case_of task.now) progress.old.hidden.flags place progress.old.tables }
     requires stopped { IsStopped (case_of task.now) progress.old.hidden.flags place asked multipliers }
     ensures ready { IsReadyForRepair task.now scratch.new progress.new }
     ensures repaired { IsRepairProgress task.now place progress.old progress.new }
     ensures ok { IfOk result (λ step. IsStep (case_of task.now) place progress.old.hidden.flags
-        progress.new.hidden.flags progress.new.worlds step) }
+        progress.new.hidden.flags progress.new.tables step) }
     ensures err { OnErr result (progress.new.hidden.flags ≡ progress.old.hidden.flags) }
 {
     let subject = subject_of(task, &progress.hidden, asked, &multipliers, scratch);
@@ -158,13 +148,14 @@ fn hide_one(
             multipliers,
         })),
         Some(subject) => {
-            progress.repair(Refuted {
+            let repair = Refuted {
                 subject,
                 cell: asked.0,
                 side: asked.1,
                 multipliers,
-            })?;
-            Ok(Step::Repaired)
+            };
+            progress.hide_for(subject, repair)?;
+            Ok(Step::Widened)
         }
     }
 }

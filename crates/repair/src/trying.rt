@@ -1,8 +1,7 @@
-ghost use Rattle.std.specs.Prelude.{◌≡◌, ◌++◌, ◌∷◌, [], ℕ, List, true, IfErr, OnOk};
+ghost use Rattle.std.specs.Prelude.{◌≡◌, true, IfErr, OnOk};
 ghost use Rattle.sdc_base.specs.HiddenSets as hidden_set;
 ghost use Rattle.sdc_base.specs.declared.cell.Kind.TheVariants.{Free as FreeKind};
 ghost use Rattle.repair.specs.HidingOrder.{IsOfKind};
-ghost use Rattle.sdc_base.specs.HiddenSets.{hide};
 ghost use Rattle.repair.specs.Tasks.{case_of};
 ghost use Rattle.repair.specs.CellTrials.{TriesStopFor};
 ghost use Rattle.repair.specs.Attempts.{IsServedSet, IsUntried, IsReadyToTry, is_open_at, IsCellTrial, IsCellTrialStop, HasTriedAll, KeepsAnswers};
@@ -12,18 +11,17 @@ use crate::progress::Progress;
 use crate::renewing::{drop_unfit, renew_all};
 use crate::task::Task;
 use crate::trial::{ReusableTable, first_need};
+use crate::trials::Trials;
 use interval_audit::AskFault;
-use sdc_base::{Cell, Items, is_hidden};
+use sdc_base::{Cell, is_hidden};
 use std::alloc::Global;
 use worlds::{Refuted, World};
 
 /// What was found of the hidden cells that aren't primary.
 #[derive(Drop)]
 pub(crate) struct Findings {
-    /// Why cells must stay hidden.
-    pub(crate) needs: Items<Refuted>,
-    /// The cells that are shown.
-    pub(crate) shown: Items<u32>,
+    /// Why cells must stay hidden, and which are shown.
+    pub(crate) trials: Trials<Refuted>,
     /// Worlds at hand beside the kept ones, at most as many as there are questions; none moves a cell that is shown.
     pub(crate) reusable: Vec<ReusableTable>,
     /// For each question, in its order, the last world that a trial found for it, if any.
@@ -35,17 +33,17 @@ pub(crate) struct Findings {
 pub(crate) fn try_all(
     alloc: Global,
     task: &Task<'_, '_>,
-    progress: &mut Progress,
+    progress: &mut Progress<World, Refuted>,
     tried: &mut Findings,
 ) -> Result<(), AskFault>
-    requires served { IsServedSet (case_of task.now) progress.old.hidden.flags progress.old.worlds }
+    requires served { IsServedSet (case_of task.now) progress.old.hidden.flags progress.old.tables }
     requires untried { IsUntried task.now tried.old }
-    ensures repairs { progress.new.repairs ≡ progress.old.repairs }
-    ensures served { OnOk result (IsServedSet (case_of task.now) progress.new.hidden.flags progress.new.worlds) }
+    ensures reasons { progress.new.reasons ≡ progress.old.reasons }
+    ensures served { OnOk result (IsServedSet (case_of task.now) progress.new.hidden.flags progress.new.tables) }
     ensures answers { OnOk result (KeepsAnswers task.now progress.old progress.new) }
     ensures ok { OnOk result (HasTriedAll task.now progress.old.hidden.flags progress.new tried.new) }
     ensures err { IfErr result (λ fault. TriesStopFor (case_of task.now) progress.old.hidden.flags task.now.limit fault
-        tried.new.shown) }
+        tried.new.trials.shown) }
 {
     'cells: for number in 0..task.cells.len() {
         let cell = number as u32;
@@ -54,14 +52,14 @@ pub(crate) fn try_all(
         }
         try_one(alloc, task, cell, progress, tried)?;
     }
-    if tried.shown.as_slice().is_empty() {
+    if tried.trials.shown.as_slice().is_empty() {
         return Ok(());
     }
     renew_all(
         alloc,
         task,
         &progress.hidden,
-        &mut progress.worlds,
+        &mut progress.tables,
         &mut tried.reusable,
         &mut progress.kept,
     )
@@ -83,19 +81,19 @@ fn try_one(
     alloc: Global,
     task: &Task<'_, '_>,
     cell: u32,
-    progress: &mut Progress,
+    progress: &mut Progress<World, Refuted>,
     tried: &mut Findings,
 ) -> Result<(), AskFault>
     requires is_free { IsOfKind task.now.cells.now cell FreeKind }
     requires hidden { hidden_set.is_hidden progress.old.hidden.flags cell ≡ true }
     requires ready { IsReadyToTry task.now progress.old tried.old }
-    ensures repairs { progress.new.repairs ≡ progress.old.repairs }
-    ensures worlds { progress.new.worlds ≡ progress.old.worlds }
+    ensures reasons { progress.new.reasons ≡ progress.old.reasons }
+    ensures tables { progress.new.tables ≡ progress.old.tables }
     ensures ready { OnOk result (IsReadyToTry task.now progress.new tried.new) }
     ensures ok { OnOk result (IsCellTrial task.now cell progress.old tried.old progress.new tried.new) }
-    ensures err { IfErr result (λ fault. IsCellTrialStop task.now cell progress.old tried.old fault tried.new.shown) }
+    ensures err { IfErr result (λ fault. IsCellTrialStop task.now cell progress.old tried.old fault tried.new.trials.shown) }
 {
-    let Ok(()) = tried.shown.push(cell) else {
+    let Ok(()) = tried.trials.shown.push(cell) else {
         return Err(AskFault::Memory);
     };
     progress.hidden.show(cell);
@@ -103,7 +101,7 @@ fn try_one(
         task,
         cell,
         hidden: &progress.hidden,
-        worlds: progress.worlds.as_slice(),
+        worlds: progress.tables.as_slice(),
     };
     let found = first_need(
         alloc,
@@ -117,31 +115,9 @@ fn try_one(
             drop_unfit(&mut tried.reusable, progress.hidden.flags.as_slice());
             Ok(())
         }
-        Some(need) => put_back(cell, need, progress, tried),
+        Some(need) => {
+            tried.trials.put_back(&mut progress.hidden, cell, need)?;
+            Ok(())
+        }
     }
-}
-
-// Hides a cell again, and keeps the need.
-fn put_back(
-    cell: u32,
-    need: Refuted,
-    progress: &mut Progress,
-    tried: &mut Findings,
-) -> Result<(), AskFault>
-    ensures flags { progress.new.hidden.flags ≡ hide progress.old.hidden.flags cell }
-    ensures worlds { progress.new.worlds ≡ progress.old.worlds }
-    ensures repairs { progress.new.repairs ≡ progress.old.repairs }
-    ensures reusable { tried.new.reusable ≡ tried.old.reusable }
-    ensures last { tried.new.last ≡ tried.old.last }
-    ensures needs { OnOk result (tried.new.needs ≡ tried.old.needs ++ need ∷ []) }
-    ensures shown { OnOk result ((earlier : List ℕ) (last : ℕ) → tried.old.shown ≡ earlier ++ last ∷ []
-        → tried.new.shown ≡ earlier) }
-    ensures err { IfErr result (λ fault. fault ≡ AskFault.Memory) }
-{
-    progress.hidden.hide(cell);
-    tried.shown.pop();
-    let Ok(()) = tried.needs.push(need) else {
-        return Err(AskFault::Memory);
-    };
-    Ok(())
 }

@@ -18,11 +18,11 @@ use Rattle.attackers.proofs.guarding.guard.Goals as goal
 pub invariant_of-task : goal.invariant_of-task
 invariant_of-task g c = record {
   fits = subst (λ (own : System). IsContributorTask own c.args.cells.now c.args.soles.now c.deref-2.result.now c.deref-3.result.now c.args.limit) (sym c.in-Ok-of.ensures) (record {
-    one_each = c.requires.cells;
-    priced = ap (λ (l : List ℕ). length l) (c.deref-2.ensures.value ∙ c.in-Ok.ensures) ∙ length-prices c.args.rule.now c.args.cells.now c.args.marks.now c.requires.marks ∙ c.requires.cells;
-    modest = c.requires.modest;
+    one_each = c.requires.can.each_cell;
+    priced = ap (λ (l : List ℕ). length l) (c.deref-2.ensures.value ∙ c.in-Ok.ensures) ∙ length-prices c.args.rule.now c.args.cells.now c.args.marks.now c.requires.can.each_mark ∙ c.requires.can.each_cell;
+    modest = c.requires.can.modest;
     are_attacks = subst (λ (l : List Attack). All (IsAttack c.args.cells.now c.args.soles.now) l) (sym (c.deref-3.ensures.value ∙ c.in-Ok-unserved_attacks.ensures)) (unserved_are c.args.cells.now c.args.soles.now c.worlds.result.now);
-    some_steps = c.requires.limit;
+    some_steps = c.requires.can.some_steps;
   });
 }
 

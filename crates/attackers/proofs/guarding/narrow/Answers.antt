@@ -6,4 +6,4 @@ use Rattle.attackers.proofs.guarding.narrow.Goals as goal
 
 pub try_all-outcome-requires-clause-within : goal.try_all-outcome-requires-clause-within
 try_all-outcome-requires-clause-within c =
-    λ cell is. ap (λ f. is_hidden f cell) c.requires.extended.hidden_is ∙ (within_cells c.args.first.now.flags (subjects_of c.args.extended.extras)).hides cell is
+    λ cell is. ap (λ f. is_hidden f cell) c.requires.extended.hidden_is ∙ (within_cells c.args.first.now.flags (subjects_of c.args.extended.reasons)).hides cell is

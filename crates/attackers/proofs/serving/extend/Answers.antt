@@ -28,8 +28,8 @@ returns-in-None-clause-ok c =
     (attack_at task.cells.now task.soles.now task.attacks.now c.args.place c.args.attack task.fits.are_attacks c.requires.refuted.stands) c.requires.refuted
     (subst (λ (f : List Bool). (n : ℕ) → breaks_at task.cells.now (with_known task.soles.now c.args.attack.row f) (coefficients_for task.system.now (target_of c.args.attack) c.args.multipliers) n ≡ false) c.as_slice-flags.ensures none)
 
-pub returns-in_ok-extend-in-Some-clause-ready : goal.returns-in_ok-extend-in-Some-clause-ready
-returns-in_ok-extend-in-Some-clause-ready c =
+pub returns-in_ok-hide_for-in-Some-clause-ready : goal.returns-in_ok-hide_for-in-Some-clause-ready
+returns-in_ok-hide_for-in-Some-clause-ready c =
     let task = c.args.task.now in
     let flags : List Bool = c.args.progress.now.hidden.flags in
     let subject : ℕ = c.in-Some.subject in
@@ -39,12 +39,12 @@ returns-in_ok-extend-in-Some-clause-ready c =
     let says : SubjectSays task.cells.now c.as_slice-flags.result.now subject = subject_says task.cells.now task.soles.now c.args.attack.row task.prices.now c.as_slice-flags.result.now (coefficients_for task.system.now (target_of c.args.attack) c.args.multipliers) subject (ap (λ (f : List Bool). length f) c.as_slice-flags.ensures ∙ long) cheapest in
     let inside : subject < length flags = omega (arith, long, slice_get_within task.cells.now subject says.is_free.cell says.is_free.found) in
     record {
-      each = ap (λ (f : List Bool). length f) c.in_ok-extend-in-Some.ensures.ok_flags ∙ length-set flags subject true ∙ c.requires.ready.each;
-      permitted = subst (IsPermitted task.cells.now) (sym c.in_ok-extend-in-Some.ensures.ok_flags) (permitted_more task.cells.now flags subject inside (free_may task.cells.now subject says.is_free) c.requires.ready.permitted);
+      each = ap (λ (f : List Bool). length f) c.in_ok-hide_for-in-Some.ensures.ok_flags ∙ length-set flags subject true ∙ c.requires.ready.each;
+      permitted = subst (IsPermitted task.cells.now) (sym c.in_ok-hide_for-in-Some.ensures.ok_flags) (permitted_more task.cells.now flags subject inside (free_may task.cells.now subject says.is_free) c.requires.ready.permitted);
     }
 
-pub returns-in_ok-extend-in-Some-clause-extended : goal.returns-in_ok-extend-in-Some-clause-extended
-returns-in_ok-extend-in-Some-clause-extended c =
+pub returns-in_ok-hide_for-in-Some-clause-extended : goal.returns-in_ok-hide_for-in-Some-clause-extended
+returns-in_ok-hide_for-in-Some-clause-extended c =
     λ first before.
     let task = c.args.task.now in
     let flags : List Bool = c.args.progress.now.hidden.flags in
@@ -52,12 +52,12 @@ returns-in_ok-extend-in-Some-clause-extended c =
     subst (λ (o : Option ℕ). IfSome o (IsCheapest task.cells.now task.prices.now (with_known task.soles.now c.args.attack.row c.as_slice-flags.result.now) (coefficients_for task.system.now (target_of c.args.attack) c.args.multipliers))) c.in-Some.is c.in_ok-found.ensures.cheapest in
     let own = turn_by (case_of task) task.soles.now task.prices.now task.attacks.now flags c.args.place c.args.attack c.args.multipliers c.in-Some.subject c.requires.refuted
     (subst (λ (f : List Bool). IsCheapest task.cells.now task.prices.now (with_known task.soles.now c.args.attack.row f) (coefficients_for task.system.now (target_of c.args.attack) c.args.multipliers) c.in-Some.subject) c.as_slice-flags.ensures cheapest) in
-    subst (λ (f : List Bool). IsExtended (case_of task) task.soles.now task.prices.now task.attacks.now first f c.extend.new.self.extras c.args.place) (sym c.in_ok-extend-in-Some.ensures.ok_flags)
-    (subst (λ (es : List ExtraNeed). IsExtended (case_of task) task.soles.now task.prices.now task.attacks.now first (hide flags c.in-Some.subject) es c.args.place) (sym c.in_ok-extend-in-Some.ensures.ok_extras)
-    (one_extended (case_of task) task.soles.now task.prices.now task.attacks.now first flags c.args.progress.now.extras c.args.place _ own c.requires.refuted.stands before))
+    subst (λ (f : List Bool). IsExtended (case_of task) task.soles.now task.prices.now task.attacks.now first f c.hide_for.new.self.reasons c.args.place) (sym c.in_ok-hide_for-in-Some.ensures.ok_flags)
+    (subst (λ (es : List ExtraNeed). IsExtended (case_of task) task.soles.now task.prices.now task.attacks.now first (hide flags c.in-Some.subject) es c.args.place) (sym c.in_ok-hide_for-in-Some.ensures.ok_reasons)
+    (one_extended (case_of task) task.soles.now task.prices.now task.attacks.now first flags c.args.progress.now.reasons c.args.place _ own c.requires.refuted.stands before))
 
-pub returns-in_ok-extend-in-Some-clause-ok : goal.returns-in_ok-extend-in-Some-clause-ok
-returns-in_ok-extend-in-Some-clause-ok c =
+pub returns-in_ok-hide_for-in-Some-clause-ok : goal.returns-in_ok-hide_for-in-Some-clause-ok
+returns-in_ok-hide_for-in-Some-clause-ok c =
     let task = c.args.task.now in
     let flags : List Bool = c.args.progress.now.hidden.flags in
     let subject : ℕ = c.in-Some.subject in
@@ -68,8 +68,8 @@ returns-in_ok-extend-in-Some-clause-ok c =
     let there : SubjectSays task.cells.now c.as_slice-flags.result.now subject = subject_says task.cells.now task.soles.now c.args.attack.row task.prices.now c.as_slice-flags.result.now (coefficients_for task.system.now (target_of c.args.attack) c.args.multipliers) subject same cheapest in
     let says : SubjectSays task.cells.now flags subject = subst (λ (f : List Bool). SubjectSays task.cells.now f subject) c.as_slice-flags.ensures there in
     let inside : subject < length flags = omega (arith, long, slice_get_within task.cells.now subject says.is_free.cell says.is_free.found) in (
-      subst (λ (f : List Bool). HoldGuards (case_of task) task.soles.now f (take c.args.place task.attacks.now) c.extend.new.self.guards) (sym c.in_ok-extend-in-Some.ensures.ok_flags)
-          (subst (λ (g : List WorldLine). HoldGuards (case_of task) task.soles.now (hide flags subject) (take c.args.place task.attacks.now) g) (sym c.in_ok-extend-in-Some.ensures.guards)
-          (held_more (case_of task) task.soles.now flags (hide flags subject) (take c.args.place task.attacks.now) c.args.progress.now.guards (within_hide flags subject inside) c.requires.held)),
-      subst (λ (f : List Bool). shown_count f < shown_count flags) (sym c.in_ok-extend-in-Some.ensures.ok_flags) (fewer_shown flags subject inside says.shown),
+      subst (λ (f : List Bool). HoldGuards (case_of task) task.soles.now f (take c.args.place task.attacks.now) c.hide_for.new.self.tables) (sym c.in_ok-hide_for-in-Some.ensures.ok_flags)
+          (subst (λ (g : List WorldLine). HoldGuards (case_of task) task.soles.now (hide flags subject) (take c.args.place task.attacks.now) g) (sym c.in_ok-hide_for-in-Some.ensures.tables)
+          (held_more (case_of task) task.soles.now flags (hide flags subject) (take c.args.place task.attacks.now) c.args.progress.now.tables (within_hide flags subject inside) c.requires.held)),
+      subst (λ (f : List Bool). shown_count f < shown_count flags) (sym c.in_ok-hide_for-in-Some.ensures.ok_flags) (fewer_shown flags subject inside says.shown),
     )

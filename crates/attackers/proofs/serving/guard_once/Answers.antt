@@ -17,7 +17,7 @@ returns-in_err-answer-clause-err c =
     subst (λ (f : List Bool). HasCause task.system.now task.cells.now (without_known task.soles.now attack.row f) (target_of attack) task.limit fault) c.as_slice-2.ensures c.in_err-answer.ensures.err in
     let p = err_from_is_err_and c.from_residual.result c.from_residual.ensures.1 in
     rw (p.1, p.2) (asked_by (case_of task) task.soles.now task.attacks.now flags task.limit fault c.in_err-answer.field-0.0.row c.args.place attack c.attack_at-attack.ensures.stands c.in_err-answer.ensures.row
-    (held_before (case_of task) task.soles.now flags task.attacks.now c.args.place c.args.progress.now.guards task.fits.are_attacks c.requires.held) cause)
+    (held_before (case_of task) task.soles.now flags task.attacks.now c.args.place c.args.progress.now.tables task.fits.are_attacks c.requires.held) cause)
 
 pub returns-in-Err-clause-err : goal.returns-in-Err-clause-err
 returns-in-Err-clause-err c =
@@ -26,4 +26,4 @@ returns-in-Err-clause-err c =
     let attack = c.attack_at-attack.result in
     subst (λ (f : List Bool). IsAskedOf task f _ attack.row c.args.place) (sym c.in-Err.ensures.err)
     (asked_by (case_of task) task.soles.now task.attacks.now flags task.limit _ attack.row c.args.place attack c.attack_at-attack.ensures.stands refl
-    (held_before (case_of task) task.soles.now flags task.attacks.now c.args.place c.args.progress.now.guards task.fits.are_attacks c.requires.held) tt)
+    (held_before (case_of task) task.soles.now flags task.attacks.now c.args.place c.args.progress.now.tables task.fits.are_attacks c.requires.held) tt)

@@ -3,7 +3,7 @@ use Rattle.std.proofs.lemmas.Result.{err_from_is_err_and}
 use Rattle.sdc_base.specs.HiddenSets.{is_hidden, hide, show}
 use Rattle.worlds.proofs.TrueTests.{on_ok, and_true, ok_more}
 use Rattle.certificate.specs.declared.certificate.WorldLine.{WorldLine}
-use Rattle.repair.proofs.Tries.{hidden_again, on_ok_two}
+use Rattle.repair.proofs.Tries.{hidden_again}
 use Rattle.certificate.specs.declared.extra.ExtraNeed.{ExtraNeed}
 use Rattle.attackers.specs.declared.trial.Trial.TheVariants as trial
 use Rattle.attackers.specs.ContributorTasks.{case_of, HoldGuards, IsReadySet}
@@ -29,7 +29,7 @@ returns-in_err-trial-clause-err c =
     rw (p.1, p.2) (λ larger before.
     tries_stop task first larger c.in_err-trial.field-0.0.fault c.in_err-trial.field-0.0.row c.push.new.self
     (subst (λ (l : List ℕ). IsTryStop (case_of task) task.soles.now task.attacks.now first larger task.limit c.in_err-trial.field-0.0.fault c.in_err-trial.field-0.0.row l) (sym c.in-Ok.ensures.ok)
-    (try_stop (case_of task) task.soles.now task.attacks.now first larger c.args.cell flags c.args.progress.now.guards c.args.found.now.needs c.args.found.now.dropped task.limit c.in_err-trial.field-0.0.fault c.in_err-trial.field-0.0.row task.fits.one_each task.fits.are_attacks inside c.requires.extra has before)))
+    (try_stop (case_of task) task.soles.now task.attacks.now first larger c.args.cell flags c.args.progress.now.tables c.args.found.now.needs c.args.found.now.shown task.limit c.in_err-trial.field-0.0.fault c.in_err-trial.field-0.0.row task.fits.one_each task.fits.are_attacks inside c.requires.extra has before)))
 
 pub returns-in-Renewed-clause-set : goal.returns-in-Renewed-clause-set
 returns-in-Renewed-clause-set c =
@@ -45,37 +45,37 @@ returns-in-Renewed-clause-ok c =
     let inside : c.args.cell < length flags = omega (arith, c.requires.ready.set.each, task.fits.one_each, c.requires.inside) in
     let told : IsTrial task c.show.new.self.flags c.args.cell c.as_slice.result.now (trial.Renewed c.in-Renewed.news) = subst (IsTrial task c.show.new.self.flags c.args.cell c.as_slice.result.now) c.in-Renewed.is c.in_ok-trial.ensures.ok in
     ok_more c.take_new.result (λ guards larger before.
-    let held : HoldGuards (case_of task) task.soles.now (show flags c.args.cell) task.attacks.now c.take_new.new.progress.guards =
+    let held : HoldGuards (case_of task) task.soles.now (show flags c.args.cell) task.attacks.now c.take_new.new.progress.tables =
     subst (λ (g : List WorldLine). HoldGuards (case_of task) task.soles.now (show flags c.args.cell) task.attacks.now g) (sym guards)
-    (subst (λ (f : List Bool). HoldGuards (case_of task) task.soles.now f task.attacks.now (renewed_guards c.args.cell c.args.progress.now.guards c.in-Renewed.news)) c.show.ensures
+    (subst (λ (f : List Bool). HoldGuards (case_of task) task.soles.now f task.attacks.now (renewed_guards c.args.cell c.args.progress.now.tables c.in-Renewed.news)) c.show.ensures
     (subst (λ (g : List WorldLine). HoldGuards (case_of task) task.soles.now c.show.new.self.flags task.attacks.now (renewed_guards c.args.cell g c.in-Renewed.news)) c.as_slice.ensures told)) in
-    subst (λ (f : List Bool). IsTried (case_of task) task.soles.now task.attacks.now first larger (c.args.cell + 1) f c.take_new.new.progress.guards c.args.found.now.needs c.push.new.self) (sym (c.take_new.ensures.flags ∙ c.show.ensures))
-    (subst (λ (l : List ℕ). IsTried (case_of task) task.soles.now task.attacks.now first larger (c.args.cell + 1) (show flags c.args.cell) c.take_new.new.progress.guards c.args.found.now.needs l) (sym c.in-Ok.ensures.ok)
-    (one_dropped (case_of task) task.soles.now task.attacks.now first larger c.args.cell flags c.args.progress.now.guards c.take_new.new.progress.guards c.args.found.now.needs c.args.found.now.dropped inside c.requires.extra held before))) c.take_new.ensures.guards
+    subst (λ (f : List Bool). IsTried (case_of task) task.soles.now task.attacks.now first larger (c.args.cell + 1) f c.take_new.new.progress.tables c.args.found.now.needs c.push.new.self) (sym (c.take_new.ensures.flags ∙ c.show.ensures))
+    (subst (λ (l : List ℕ). IsTried (case_of task) task.soles.now task.attacks.now first larger (c.args.cell + 1) (show flags c.args.cell) c.take_new.new.progress.tables c.args.found.now.needs l) (sym c.in-Ok.ensures.ok)
+    (one_dropped (case_of task) task.soles.now task.attacks.now first larger c.args.cell flags c.args.progress.now.tables c.take_new.new.progress.tables c.args.found.now.needs c.args.found.now.shown inside c.requires.extra held before))) c.take_new.ensures.tables
 
-pub returns-in-Refused-clause-set : goal.returns-in-Refused-clause-set
-returns-in-Refused-clause-set c =
+pub returns-in-Ok-put_back-clause-set : goal.returns-in-Ok-put_back-clause-set
+returns-in-Ok-put_back-clause-set c =
     let task = c.args.task.now in
     let flags : List Bool = c.args.progress.now.hidden.flags in
     let inside : c.args.cell < length flags = omega (arith, c.requires.ready.set.each, task.fits.one_each, c.requires.inside) in
     let hidden : is_hidden flags c.args.cell ≡ true = (and_true (is_hidden flags c.args.cell) (not (is_hidden c.args.first.now.flags c.args.cell)) c.requires.extra).0 in
-    let same : c.put_back.new.progress.hidden.flags ≡ flags = c.put_back.ensures.flags ∙ ap (λ (f : List Bool). hide f c.args.cell) c.show.ensures ∙ hidden_again flags c.args.cell inside hidden in
-    on_ok (IsReadySet task c.put_back.new.progress.hidden.flags) c.put_back.result (subst (IsReadySet task) (sym same) c.requires.ready.set)
+    let same : c.put_back.new.hidden.flags ≡ flags = c.put_back.ensures.flags ∙ ap (λ (f : List Bool). hide f c.args.cell) c.show.ensures ∙ hidden_again flags c.args.cell inside hidden in
+    subst (IsReadySet task) (sym same) c.requires.ready.set
 
-pub returns-in-Refused-clause-ok : goal.returns-in-Refused-clause-ok
-returns-in-Refused-clause-ok c =
+pub returns-in-Ok-put_back-clause-ok : goal.returns-in-Ok-put_back-clause-ok
+returns-in-Ok-put_back-clause-ok c =
+    λ larger before.
     let task = c.args.task.now in
     let first : List Bool = c.args.first.now.flags in
     let flags : List Bool = c.args.progress.now.hidden.flags in
+    let guards : List WorldLine = c.args.progress.now.tables in
     let inside : c.args.cell < length flags = omega (arith, c.requires.ready.set.each, task.fits.one_each, c.requires.inside) in
     let hidden : is_hidden flags c.args.cell ≡ true = (and_true (is_hidden flags c.args.cell) (not (is_hidden first c.args.cell)) c.requires.extra).0 in
-    let same : c.put_back.new.progress.hidden.flags ≡ flags = c.put_back.ensures.flags ∙ ap (λ (f : List Bool). hide f c.args.cell) c.show.ensures ∙ hidden_again flags c.args.cell inside hidden in
+    let same : c.put_back.new.hidden.flags ≡ flags = c.put_back.ensures.flags ∙ ap (λ (f : List Bool). hide f c.args.cell) c.show.ensures ∙ hidden_again flags c.args.cell inside hidden in
     let told : IsTrial task c.show.new.self.flags c.args.cell c.as_slice.result.now (trial.Refused c.in-Refused.need) = subst (IsTrial task c.show.new.self.flags c.args.cell c.as_slice.result.now) c.in-Refused.is c.in_ok-trial.ensures.ok in
     let refuted : IsNeedFor (case_of task) task.soles.now task.attacks.now (show flags c.args.cell) c.in-Refused.need = subst (λ (f : List Bool). IsNeedFor (case_of task) task.soles.now task.attacks.now f c.in-Refused.need) c.show.ensures told.1 in
-    on_ok_two c.put_back.result c.put_back.ensures.needs c.put_back.ensures.dropped (λ needs dropped larger before.
-    let back : c.put_back.new.found.dropped ≡ c.args.found.now.dropped = dropped c.args.found.now.dropped c.args.cell c.in-Ok.ensures.ok in
-    subst (λ (f : List Bool). IsTried (case_of task) task.soles.now task.attacks.now first larger (c.args.cell + 1) f c.put_back.new.progress.guards c.put_back.new.found.needs c.put_back.new.found.dropped) (sym same)
-    (subst (λ (g : List WorldLine). IsTried (case_of task) task.soles.now task.attacks.now first larger (c.args.cell + 1) flags g c.put_back.new.found.needs c.put_back.new.found.dropped) (sym c.put_back.ensures.guards)
-    (subst (λ (rs : List ExtraNeed). IsTried (case_of task) task.soles.now task.attacks.now first larger (c.args.cell + 1) flags c.args.progress.now.guards rs c.put_back.new.found.dropped) (sym needs)
-    (subst (λ (l : List ℕ). IsTried (case_of task) task.soles.now task.attacks.now first larger (c.args.cell + 1) flags c.args.progress.now.guards (c.args.found.now.needs ++ c.in-Refused.need ∷ []) l) (sym back)
-    (one_needed (case_of task) task.soles.now task.attacks.now first larger c.args.cell flags c.args.progress.now.guards c.args.found.now.needs c.args.found.now.dropped c.in-Refused.need inside c.requires.extra told.0 refuted before)))))
+    let back : c.put_back.new.self.shown ≡ c.args.found.now.shown = c.in-Ok-put_back.ensures.shown c.args.found.now.shown c.args.cell c.in-Ok.ensures.ok in
+    subst (λ (f : List Bool). IsTried (case_of task) task.soles.now task.attacks.now first larger (c.args.cell + 1) f guards c.put_back.new.self.needs c.put_back.new.self.shown) (sym same)
+    (subst (λ (rs : List ExtraNeed). IsTried (case_of task) task.soles.now task.attacks.now first larger (c.args.cell + 1) flags guards rs c.put_back.new.self.shown) (sym c.in-Ok-put_back.ensures.needs)
+    (subst (λ (l : List ℕ). IsTried (case_of task) task.soles.now task.attacks.now first larger (c.args.cell + 1) flags guards (c.args.found.now.needs ++ c.in-Refused.need ∷ []) l) (sym back)
+    (one_needed (case_of task) task.soles.now task.attacks.now first larger c.args.cell flags guards c.args.found.now.needs c.args.found.now.shown c.in-Refused.need inside c.requires.extra told.0 refuted before)))

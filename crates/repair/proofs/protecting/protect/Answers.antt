@@ -17,11 +17,11 @@ use Rattle.repair.proofs.protecting.protect.Goals as goal
 pub invariant_of-task : goal.invariant_of-task
 invariant_of-task g c = record {
   fits = subst (λ (own : System). IsTask own c.args.cells.now c.deref.result.now c.deref-2.result.now c.args.limit) (sym c.in-Ok-of.ensures) (record {
-    one_each = c.requires.cells;
-    priced = ap (λ (l : List ℕ). length l) (c.deref.ensures.value ∙ c.in-Ok.ensures) ∙ length-prices c.args.rule.now c.args.cells.now c.args.marks.now c.requires.marks ∙ c.requires.cells;
-    modest = c.requires.modest;
+    one_each = c.requires.can.each_cell;
+    priced = ap (λ (l : List ℕ). length l) (c.deref.ensures.value ∙ c.in-Ok.ensures) ∙ length-prices c.args.rule.now c.args.cells.now c.args.marks.now c.requires.can.each_mark ∙ c.requires.can.each_cell;
+    modest = c.requires.can.modest;
     in_order = c.deref-2.ensures.value ∙ c.in-Ok-questions_of.ensures;
-    some_steps = c.requires.limit;
+    some_steps = c.requires.can.some_steps;
   });
 }
 
@@ -29,7 +29,7 @@ pub repaired_verdict-requires-clause-each : goal.repaired_verdict-requires-claus
 repaired_verdict-requires-clause-each g c =
     ap (λ (l : List Bool). length l) c.in-Ok-planned_hidden.ensures
     ∙ ap (λ steps. length (planned_set c.args.cells.now (corners_of steps))) c.as_slice.ensures
-    ∙ planned_length c.args.cells.now (corners_of c.args.trail.now.steps) ∙ c.requires.cells ∙ ap (λ (own : System). own.cells) (sym c.in-Ok-of.ensures)
+    ∙ planned_length c.args.cells.now (corners_of c.args.trail.now.steps) ∙ c.requires.can.each_cell ∙ ap (λ (own : System). own.cells) (sym c.in-Ok-of.ensures)
 
 pub repaired_verdict-requires-clause-permitted : goal.repaired_verdict-requires-clause-permitted
 repaired_verdict-requires-clause-permitted g c =

@@ -6,7 +6,7 @@ use Rattle.repair.proofs.serving.serve.Given as goal
 abbrev pub invariant-repairs : goal.invariant-repairs
 invariant-repairs l = record {
   ready : IsReadyForRepair l.task l.scratch l.progress;
-  served : AreServedBefore (protected_case l.task.system.now l.task.cells.now) l.progress.hidden.flags l.place l.progress.worlds;
+  served : AreServedBefore (protected_case l.task.system.now l.task.cells.now) l.progress.hidden.flags l.place l.progress.tables;
   repaired : IsRepairProgress l.task l.place l.fn.progress l.progress;
 }
 

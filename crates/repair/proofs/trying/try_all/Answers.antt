@@ -28,15 +28,15 @@ cells-init c =
         set = record {
           each = c.requires.served.each;
           permitted = c.requires.served.permitted;
-          kept = kept_by task flags all c.args.progress.now.worlds c.requires.served.served;
+          kept = kept_by task flags all c.args.progress.now.tables c.requires.served.served;
         };
         reusable = subst (AreReusableTables task) (sym c.requires.untried.no_spares) (All-nil (IsReusableTable task));
         last = c.requires.untried.last;
       };
       tried = record {
-        are_tried = subst (λ (ns : List Refuted). IsTried task flags 0 flags ns c.args.tried.now.shown) (sym c.requires.untried.no_needs)
+        are_tried = subst (λ (ns : List Refuted). IsTried task flags 0 flags ns c.args.tried.now.trials.shown) (sym c.requires.untried.no_needs)
             (subst (λ (l : List ℕ). IsTried task flags 0 flags [] l) (sym c.requires.untried.none_shown)
-            (none_tried task flags (served_protect task flags all c.args.progress.now.worlds c.requires.served.served)));
+            (none_tried task flags (served_protect task flags all c.args.progress.now.tables c.requires.served.served)));
         answers = subst (AreTrialAnswers task flags 0 flags) (sym c.requires.untried.no_spares) (All-nil (IsTrialAnswer task flags 0 flags));
       };
     }
@@ -53,7 +53,7 @@ cells-preserved-then-not-is_open c =
       worlds = c.cells.invariant.worlds;
       ready = c.cells.invariant.ready;
       tried = record {
-        are_tried = one_closed task larger number flags c.cells.tried.needs c.cells.tried.shown c.cells-test.true c.cells.invariant.ready.set.permitted
+        are_tried = one_closed task larger number flags c.cells.tried.trials.needs c.cells.tried.trials.shown c.cells-test.true c.cells.invariant.ready.set.permitted
             (ap (λ (f : List Bool). is_open_at c.args.task.now.cells.now f c.cells.number) (sym c.as_slice.ensures) ∙ sym c.is_open.ensures ∙ c.if-not-is_open.true) before.are_tried;
         answers = trials_later task larger number (number + 1) flags c.cells.tried.reusable.items (omega arith) before.answers;
       };
@@ -70,28 +70,28 @@ returns-clause-err c =
     let task : Case = protected_case c.args.task.now.system.now c.args.task.now.cells.now in
     let larger : List Bool = c.args.progress.now.hidden.flags in
     let flags : List Bool = c.cells.progress.hidden.flags in
-    let shown : List ℕ = c.cells.tried.shown in
+    let shown : List ℕ = c.cells.tried.trials.shown in
     let none : (length shown == 0) ≡ false = ap (λ (l : List ℕ). length l == 0) (sym c.as_slice-2.ensures) ∙ sym c.is_empty.ensures ∙ c.if-is_empty.false in
     let last : c.cells.number ≡ length c.args.task.now.cells.now = omega (arith, c.cells-test.false, c.cells.auto.number-end) in
-    let all : IsTried task larger (length c.args.task.now.cells.now) flags c.cells.tried.needs shown = subst (λ n. IsTried task larger n flags c.cells.tried.needs shown) last c.cells.invariant.tried.are_tried in
+    let all : IsTried task larger (length c.args.task.now.cells.now) flags c.cells.tried.trials.needs shown = subst (λ n. IsTried task larger n flags c.cells.tried.trials.needs shown) last c.cells.invariant.tried.are_tried in
     err_more c.renew_all.result (λ fault has. tries_stop task larger c.args.task.now.limit fault shown
-    (end_stop task larger flags c.cells.tried.needs shown c.args.task.now.limit fault c.args.task.now.fits.one_each (some_shown shown none) has all)) c.renew_all.ensures.err
+    (end_stop task larger flags c.cells.tried.trials.needs shown c.args.task.now.limit fault c.args.task.now.fits.one_each (some_shown shown none) has all)) c.renew_all.ensures.err
 
 pub returns-then-is_empty-clause-answers : goal.returns-then-is_empty-clause-answers
 returns-then-is_empty-clause-answers c =
     λ planned is.
     let task : Case = protected_case c.args.task.now.system.now c.args.task.now.cells.now in
-    let repairs : List Refuted = c.args.progress.now.repairs in
-    answers_first task planned repairs c.cells.progress.hidden.flags c.cells.progress.worlds (subst (AreAnswers task (IsOfFirst planned repairs) (asked_of 0 c.args.task.now.cells.now)) (sym c.cells.invariant.worlds) is.answers)
+    let repairs : List Refuted = c.args.progress.now.reasons in
+    answers_first task planned repairs c.cells.progress.hidden.flags c.cells.progress.tables (subst (AreAnswers task (IsOfFirst planned repairs) (asked_of 0 c.args.task.now.cells.now)) (sym c.cells.invariant.worlds) is.answers)
 
 pub returns-clause-answers : goal.returns-clause-answers
 returns-clause-answers c =
     ok_more c.renew_all.result (λ stays planned is.
     let task : Case = protected_case c.args.task.now.system.now c.args.task.now.cells.now in
-    let repairs : List Refuted = c.args.progress.now.repairs in
+    let repairs : List Refuted = c.args.progress.now.reasons in
     let flags : List Bool = c.cells.progress.hidden.flags in
-    let worlds : AnswerOnWay c.args.task.now planned repairs flags c.cells.progress.worlds =
-    answers_first task planned repairs flags c.cells.progress.worlds (subst (AreAnswers task (IsOfFirst planned repairs) (asked_of 0 c.args.task.now.cells.now)) (sym c.cells.invariant.worlds) is.answers) in
+    let worlds : AnswerOnWay c.args.task.now planned repairs flags c.cells.progress.tables =
+    answers_first task planned repairs flags c.cells.progress.tables (subst (AreAnswers task (IsOfFirst planned repairs) (asked_of 0 c.args.task.now.cells.now)) (sym c.cells.invariant.worlds) is.answers) in
     let last : c.cells.number ≡ length c.args.task.now.cells.now = omega (arith, c.cells-test.false, c.cells.auto.number-end) in
     let reusable : AnswerTrials c.args.task.now planned repairs flags c.cells.tried.reusable.items =
     subst (λ n. AreTrialAnswers task (hide_subjects planned repairs) n flags c.cells.tried.reusable.items) last

@@ -5,8 +5,8 @@ use Rattle.repair.proofs.trying.try_all.Given as goal
 
 abbrev pub invariant-cells : goal.invariant-cells
 invariant-cells l = record {
-  repairs : l.progress.repairs ≡ l.fn.progress.repairs;
-  worlds : l.progress.worlds ≡ l.fn.progress.worlds;
+  repairs : l.progress.reasons ≡ l.fn.progress.reasons;
+  worlds : l.progress.tables ≡ l.fn.progress.tables;
   ready : IsReadyToTry l.task l.progress l.tried;
   tried : HasTried l.task l.fn.progress.hidden.flags l.number l.progress l.tried;
 }
