@@ -19,12 +19,11 @@ use Rattle.worlds.proofs.TrueTests.{and_true, both_true, not_true}
 use Rattle.worlds.proofs.WorldLaws.{then_ok, passes}
 use Rattle.worlds.proofs.RefutationLaws.{refutation_law}
 use Rattle.certificate.specs.declared.certificate.WorldLine.{WorldLine}
-use Rattle.repair.specs.HidingOrder.{Case, IsOfKind}
+use Rattle.repair.specs.HidingOrder.{Case, IsOfKind, is_free_at}
 use Rattle.repair.specs.Needs.{set_when_tried}
 use Rattle.repair.proofs.Fewer.{refutation_fewer}
 use Rattle.repair.proofs.Flags.{by_test, clash, same_or_other, hidden_here, hidden_other}
 use Rattle.repair.proofs.Repairing.{hidden_cell}
-use Rattle.repair.proofs.Tries.{show_within}
 use Rattle.attackers.specs.declared.attack.Attack.{Attack}
 use Rattle.certificate.specs.declared.extra.ExtraNeed.{ExtraNeed}
 use Rattle.certificate.specs.declared.extra.Extra.{Extra}
@@ -32,8 +31,9 @@ use Rattle.attackers.specs.declared.faults.ExtraFault.TheVariants as fault
 use Rattle.attackers.specs.KnownCells.{without_known, is_attack, is_served, serves, IsAttack, Guards, GuardsAll}
 use Rattle.attackers.specs.Extras.{attack_of, subjects_of, Unguards}
 use Rattle.attackers.specs.ContributorTasks.{case_of}
-use Rattle.attackers.specs.Dropping.{is_beside, cells_beside, IsNeedBelow}
-use Rattle.attackers.specs.ExtraFaults.{is_free_at, may_be_extra, cells_fault, is_need_of, need_cells_fault, need_fault, needs_fault, guard_cells_fault, guards_fault, attacks_fault, guarding_fault, extra_fault}
+use Rattle.attackers.specs.Dropping.{is_beside, cells_beside, IsNeedFor}
+use Rattle.repair.specs.TriedCells.{IsNeedBelow}
+use Rattle.attackers.specs.ExtraFaults.{may_be_extra, cells_fault, is_need_of, need_cells_fault, need_fault, needs_fault, guard_cells_fault, guards_fault, attacks_fault, guarding_fault, extra_fault}
 use Rattle.attackers.specs.Guarding.{guards_in_order, lines_of, IsGuardedBy, IsGuarded, is_cannot}
 use Rattle.attackers.specs.Narrowing.{IsNarrowed, IsOutcome}
 use Rattle.attackers.specs.GuardStops.{IsStopAsTold}
@@ -52,7 +52,7 @@ use Rattle.attackers.proofs.Thinning.{thinned_all}
 use Rattle.attackers.proofs.AskedCells.{AttackSays, attack_says, attack_at}
 use Rattle.attackers.proofs.Holding.{any_left, any_right}
 use Rattle.attackers.proofs.Knowing.{without_more, all_guards_more}
-use Rattle.attackers.proofs.Tries.{members-more}
+use Rattle.repair.proofs.TriedCells.{members-more, show_within}
 
 -- ---- the extra cells
 
@@ -208,7 +208,7 @@ needs_pass c soles flags k (need ∷ needs) one_each are =
     (ap (map_fault (fault.Need (line_number k))) fine) (needs_pass c soles flags (k + 1) needs one_each (All-tail (λ (n : ExtraNeed). IsAttack c.cells soles (attack_of n) × Unguards c soles (show flags n.subject) (attack_of n) n.multipliers) need needs are))
 
 -- a need for a larger set is one for the set that is left
-pub need_left : (c : Case) (soles : List (Option ℕ)) (attacks : List Attack) (flags larger : List Bool) (n : ℕ) (need : ExtraNeed) → All (IsAttack c.cells soles) attacks → ((cell : ℕ) → is_hidden flags cell ≡ true → is_hidden larger cell ≡ true) → IsNeedBelow c soles attacks flags larger n need → IsAttack c.cells soles (attack_of need) × Unguards c soles (show flags need.subject) (attack_of need) need.multipliers
+pub need_left : (c : Case) (soles : List (Option ℕ)) (attacks : List Attack) (flags larger : List Bool) (n : ℕ) (need : ExtraNeed) → All (IsAttack c.cells soles) attacks → ((cell : ℕ) → is_hidden flags cell ≡ true → is_hidden larger cell ≡ true) → IsNeedBelow (λ (n : ExtraNeed). n.subject) (IsNeedFor c soles attacks) flags larger n need → IsAttack c.cells soles (attack_of need) × Unguards c soles (show flags need.subject) (attack_of need) need.multipliers
 need_left c soles attacks flags larger n need are within is = (
   attack_at c.cells soles attacks is.refuted.place (attack_of need) are is.refuted.stands,
   refutation_fewer c.system c.cells (without_known soles need.row (show flags need.subject)) (without_known soles need.row (set_when_tried flags larger need.subject)) need.cell need.side need.multipliers
@@ -245,21 +245,21 @@ guarded_by task first worlds extra each_first start protected attacks_are_left i
     let one_each : length c.cells ≡ c.system.cells = task.fits.one_each in
     let each : length is.flags ≡ length c.cells = omega (arith, is.each, one_each) in
     let cells_are : extra.cells ≡ cells_beside first is.flags (length is.flags) = is.cells_are ∙ is.tried.each_needed ∙ ap (λ n. cells_beside first is.flags n) (sym each) in
-    let needs = All-weaker (IsNeedBelow c soles left is.flags is.larger (length c.cells)) (λ (need : ExtraNeed). IsAttack c.cells soles (attack_of need) × Unguards c soles (show is.flags need.subject) (attack_of need) need.multipliers)
+    let needs = All-weaker (IsNeedBelow (λ (n : ExtraNeed). n.subject) (IsNeedFor c soles left) is.flags is.larger (length c.cells)) (λ (need : ExtraNeed). IsAttack c.cells soles (attack_of need) × Unguards c soles (show is.flags need.subject) (attack_of need) need.multipliers)
     (λ need own. need_left c soles left is.flags is.larger (length c.cells) need task.fits.are_attacks is.tried.within own) extra.needs is.tried.are_needs in
     let lines : List WorldLine = lines_of (asked_of 0 c.cells) worlds in
     let thinned : IsThinned (IsServedBy c.cells soles worlds) (attacks_of c.cells soles) left = subst (λ (l : List Attack). IsThinned (IsServedBy c.cells soles worlds) (attacks_of c.cells soles) l) (sym attacks_are_left) (unserved_thinned c.cells soles worlds protected.count) in
     let Met : Attack → Type 0 = λ attack. is_served c.cells soles attack (lines ++ extra.guards) ≡ true in
     let met_left : All Met left = λ k d within.
     any_right (λ (line : WorldLine). serves c.cells soles (get_or left k d) line.world) lines extra.guards
-    (subst (λ (l : List WorldLine). is_served c.cells soles (get_or left k d) l ≡ true) (sym is.guards_are) (any_in_order (λ (line : WorldLine). serves c.cells soles (get_or left k d) line.world) c.cells is.guards is.tried.holds.are_lines (is.tried.holds.served k d within))) in
+    (subst (λ (l : List WorldLine). is_served c.cells soles (get_or left k d) l ≡ true) (sym is.guards_are) (any_in_order (λ (line : WorldLine). serves c.cells soles (get_or left k d) line.world) c.cells is.guards is.holds.are_lines (is.holds.served k d within))) in
     let met : All Met (attacks_of c.cells soles) =
     thinned_all (IsServedBy c.cells soles worlds) Met (attacks_of c.cells soles) left
     (λ attack own. any_left (λ (line : WorldLine). serves c.cells soles attack line.world) lines extra.guards (served_lines c.cells soles attack (asked_of 0 c.cells) worlds protected.count own.1)) thinned met_left in
     let passes_all : extra_fault c soles first lines extra ≡ Ok tt =
-    extra_passes c soles first is.flags worlds is.guards extra one_each each_first each start is.permitted is.tried.first_stays cells_are is.cells_are needs is.guards_are is.tried.holds.are_lines is.tried.holds.are_worlds met in
+    extra_passes c soles first is.flags worlds is.guards extra one_each each_first each start is.permitted is.first_stays cells_are is.cells_are needs is.guards_are is.holds.are_lines is.holds.are_worlds met in
     let guarding : IsGuarding c soles first extra = accepted c soles first lines extra one_each (All-lines (λ (world : World). IsGivenWorld c.system c.cells first world) (asked_of 0 c.cells) worlds protected.are) passes_all in
-    let set : hide_cells first extra.cells ≡ is.flags = ap (λ (l : List ℕ). hide_cells first l) cells_are ∙ hidden_beside first is.flags (each_first ∙ sym each) is.tried.first_stays in
+    let set : hide_cells first extra.cells ≡ is.flags = ap (λ (l : List ℕ). hide_cells first l) cells_are ∙ hidden_beside first is.flags (each_first ∙ sym each) is.first_stays in
     record {
       accepted = passes_all;
       guarding = guarding;

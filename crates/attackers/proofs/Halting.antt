@@ -22,7 +22,8 @@ use Rattle.attackers.specs.AttackOrder.{IsThinned}
 use Rattle.attackers.specs.Extras.{attack_of, subjects_of, IsInTurn, EachExtra}
 use Rattle.attackers.specs.ContributorTasks.{case_of, IsExtendedUpTo, IsAsked, IsHalted, IsCannot}
 use Rattle.attackers.specs.Dropping.{is_beside, AreDropped, IsTryStop, TriesStopFor}
-use Rattle.repair.specs.Stops.{list_with_fault}
+use Rattle.repair.specs.WantOfMemory.{MemoryOr, UnlessMemory, list_with_fault}
+use Rattle.repair.proofs.WantOfMemory.{unless_memory, memory_more}
 use Rattle.attackers.specs.GuardStops.{row_with_fault, IsGuardStop, StopsFor, IsStopAsTold}
 use Rattle.attackers.proofs.AllAttacks.{within_cells, within_one}
 use Rattle.attackers.proofs.Knowing.{guards_more}
@@ -32,10 +33,18 @@ use Rattle.attackers.proofs.Thinning.{thinned_all, spot, spot_stands, spot_befor
 none_dropped : (c : Case) (soles : List (Option ℕ)) (attacks : List Attack) (first larger : List Bool) → AreDropped c soles attacks first larger []
 none_dropped c soles attacks first larger = record {
   ascending = tt;
-  are_extra = All-nil (λ cell. is_beside first larger cell ≡ true);
-  guarded_before = λ earlier last is. absurd (none_is_more earlier last is);
+  are_open = All-nil (λ cell. is_beside first larger cell ≡ true);
+  held_before = λ earlier last is. absurd (none_is_more earlier last is);
   others_needed = λ earlier last cell is. absurd (none_is_more earlier last is);
 }
+
+-- a stop with a row and two lists, as they are handed out
+against_told : (Stops : ℕ → List ExtraNeed → List ℕ → Type 0) (fault : AskFault) (row : ℕ) (extras : List ExtraNeed) (dropped : List ℕ) → UnlessMemory fault (Stops row extras dropped)
+    → MemoryOr fault ((row_with_fault fault row ≡ 0) × (list_with_fault fault extras ≡ []) × (list_with_fault fault dropped ≡ [])) (Stops (row_with_fault fault row) (list_with_fault fault extras) (list_with_fault fault dropped))
+against_told Stops (Work walk) row extras dropped is = is
+against_told Stops (Wide walk place) row extras dropped is = is
+against_told Stops (Size question hidden) row extras dropped is = is
+against_told Stops Memory row extras dropped is = (refl, refl, refl)
 
 -- a question that has a fault stops the hiding of extra cells
 stop_by : (task : ContributorTask) (first : List Bool) (progress : Progress WorldLine ExtraNeed) (fault : AskFault) (row : ℕ) → IsHalted task first progress fault row → IsGuardStop (case_of task) task.soles.now task.prices.now task.attacks.now first task.limit fault row progress.reasons []
@@ -48,10 +57,8 @@ stop_by task first progress fault row is = record {
 }
 
 stops_for : (task : ContributorTask) (first : List Bool) (progress : Progress WorldLine ExtraNeed) (fault : AskFault) (row : ℕ) → IsHalted task first progress fault row → StopsFor (case_of task) task.soles.now task.prices.now task.attacks.now first task.limit fault (row_with_fault fault row) (list_with_fault fault progress.reasons) (list_with_fault fault [])
-stops_for task first progress (Work walk) row is = stop_by task first progress (Work walk) row is
-stops_for task first progress (Wide walk place) row is = stop_by task first progress (Wide walk place) row is
-stops_for task first progress (Size question hidden) row is = stop_by task first progress (Size question hidden) row is
-stops_for task first progress Memory row is = (refl, refl, refl)
+stops_for task first progress fault row is =
+    against_told (IsGuardStop (case_of task) task.soles.now task.prices.now task.attacks.now first task.limit fault) fault row progress.reasons [] (unless_memory fault (stop_by task first progress fault row is))
 
 -- a question that has a fault while a cell is tried
 try_stop_by : (task : ContributorTask) (first : List Bool) (progress : Progress WorldLine ExtraNeed) (place : ℕ) (fault : AskFault) (row : ℕ) (dropped : List ℕ) → IsExtendedUpTo task place first progress → IsTryStop (case_of task) task.soles.now task.attacks.now first progress.hidden.flags task.limit fault row dropped → IsGuardStop (case_of task) task.soles.now task.prices.now task.attacks.now first task.limit fault row progress.reasons dropped
@@ -60,17 +67,15 @@ try_stop_by task first progress place fault row dropped is stop =
     subst (λ (f : List Bool). IsTryStop (case_of task) task.soles.now task.attacks.now first f task.limit fault row dropped) is.hidden_is stop in
     record {
       each = is.each;
-      are_dropped = own.are_dropped;
-      place = own.has_fault.0;
-      asked = own.has_fault.1;
-      onward = λ none. absurd (own.drops_a_cell none);
+      are_dropped = own.are_shown;
+      place = own.stops.0;
+      asked = own.stops.1;
+      onward = λ none. absurd (own.shows_a_cell none);
     }
 
 stops_trying : (task : ContributorTask) (first : List Bool) (progress : Progress WorldLine ExtraNeed) (place : ℕ) (fault : AskFault) (row : ℕ) (dropped : List ℕ) → IsExtendedUpTo task place first progress → TriesStopFor task first progress.hidden.flags fault row dropped → StopsFor (case_of task) task.soles.now task.prices.now task.attacks.now first task.limit fault (row_with_fault fault row) (list_with_fault fault progress.reasons) (list_with_fault fault dropped)
-stops_trying task first progress place (Work walk) row dropped is stop = try_stop_by task first progress place (Work walk) row dropped is stop
-stops_trying task first progress place (Wide walk at) row dropped is stop = try_stop_by task first progress place (Wide walk at) row dropped is stop
-stops_trying task first progress place (Size question hidden) row dropped is stop = try_stop_by task first progress place (Size question hidden) row dropped is stop
-stops_trying task first progress place Memory row dropped is stop = (refl, refl, refl)
+stops_trying task first progress place fault row dropped is stop =
+    against_told (IsGuardStop (case_of task) task.soles.now task.prices.now task.attacks.now first task.limit fault) fault row progress.reasons dropped (memory_more (Unit {0}) fault (try_stop_by task first progress place fault row dropped is) stop)
 
 -- the same of what is handed out
 pub told : (c : Case) (soles : List (Option ℕ)) (prices : List ℕ) (attacks : List Attack) (first : List Bool) (limit : ℕ) (stop : GuardStop) (fault : AskFault) (row : ℕ) (extras : List ExtraNeed) (dropped : List ℕ) → stop.fault ≡ fault → stop.against.row ≡ row → stop.against.extras ≡ extras → stop.against.dropped ≡ dropped → StopsFor c soles prices attacks first limit fault row extras dropped → IsStopAsTold c soles prices attacks first limit stop
@@ -157,10 +162,10 @@ front_of P (one ∷ earlier) last all = All-cons P one earlier (All-head P one (
 dropped_all : (c : Case) (soles : List (Option ℕ)) (first larger : List Bool) (Is : Attack → Type 0) (all left : List Attack) (dropped : List ℕ) → IsThinned Is all left → IsLeftOut c soles first Is → IsWithin first larger → AreDropped c soles left first larger dropped → AreDropped c soles all first larger dropped
 dropped_all c soles first larger Is all left dropped thinned out within is = record {
   ascending = is.ascending;
-  are_extra = is.are_extra;
-  guarded_before = λ earlier last same.
-      let others : All (λ cell. is_hidden first cell ≡ false) earlier = front_of (λ cell. is_hidden first cell ≡ false) earlier last (subst (All (λ cell. is_hidden first cell ≡ false)) same (not_first first larger dropped is.are_extra)) in
-      thinned_all Is (Guards c soles (show_all larger earlier)) all left (λ attack own. guards_more c soles first (show_all larger earlier) attack (first_stays first larger earlier others within) (out.guards attack own)) thinned (is.guarded_before earlier last same);
+  are_open = is.are_open;
+  held_before = λ earlier last same.
+      let others : All (λ cell. is_hidden first cell ≡ false) earlier = front_of (λ cell. is_hidden first cell ≡ false) earlier last (subst (All (λ cell. is_hidden first cell ≡ false)) same (not_first first larger dropped is.are_open)) in
+      thinned_all Is (Guards c soles (show_all larger earlier)) all left (λ attack own. guards_more c soles first (show_all larger earlier) attack (first_stays first larger earlier others within) (out.guards attack own)) thinned (is.held_before earlier last same);
   others_needed = λ earlier last cell same below still guards. is.others_needed earlier last cell same below still (left_guarded (Guards c soles (set_when_tried (show_all larger dropped) larger cell)) Is all left thinned guards);
 }
 
@@ -169,7 +174,7 @@ stop_all c soles prices first limit Is all left fault row extras dropped thinned
     let larger : List Bool = hide_cells first (subjects_of extras) in
     let within : IsWithin first larger = within_cells first (subjects_of extras) in
     let set : List Bool = show_all larger dropped in
-    let stays : IsWithin first set = first_stays first larger dropped (not_first first larger dropped is.are_dropped.are_extra) within in
+    let stays : IsWithin first set = first_stays first larger dropped (not_first first larger dropped is.are_dropped.are_open) within in
     record {
       each = each_all c soles prices first first Is all left thinned out (within_itself first) extras is.each;
       are_dropped = dropped_all c soles first larger Is all left dropped thinned out within is.are_dropped;
@@ -187,7 +192,5 @@ stop_all c soles prices first limit Is all left fault row extras dropped thinned
     }
 
 pub stops_all : (c : Case) (soles : List (Option ℕ)) (prices : List ℕ) (first : List Bool) (limit : ℕ) (Is : Attack → Type 0) (all left : List Attack) (fault : AskFault) (row : ℕ) (extras : List ExtraNeed) (dropped : List ℕ) → IsThinned Is all left → IsLeftOut c soles first Is → StopsFor c soles prices left first limit fault row extras dropped → StopsFor c soles prices all first limit fault row extras dropped
-stops_all c soles prices first limit Is all left (Work walk) row extras dropped thinned out is = stop_all c soles prices first limit Is all left (Work walk) row extras dropped thinned out is
-stops_all c soles prices first limit Is all left (Wide walk place) row extras dropped thinned out is = stop_all c soles prices first limit Is all left (Wide walk place) row extras dropped thinned out is
-stops_all c soles prices first limit Is all left (Size question hidden) row extras dropped thinned out is = stop_all c soles prices first limit Is all left (Size question hidden) row extras dropped thinned out is
-stops_all c soles prices first limit Is all left Memory row extras dropped thinned out is = is
+stops_all c soles prices first limit Is all left fault row extras dropped thinned out is =
+    memory_more ((row ≡ 0) × (extras ≡ []) × (dropped ≡ [])) fault (stop_all c soles prices first limit Is all left fault row extras dropped thinned out) is

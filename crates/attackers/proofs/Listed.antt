@@ -15,7 +15,7 @@ use Rattle.worlds.specs.ProtectFaults.{line_number}
 use Rattle.worlds.proofs.TrueTests.{and_true, not_true}
 use Rattle.worlds.proofs.WorldLaws.{not_refused}
 use Rattle.certificate.specs.declared.certificate.WorldLine.{WorldLine}
-use Rattle.repair.specs.HidingOrder.{IsOfKind}
+use Rattle.repair.specs.HidingOrder.{IsOfKind, is_free_at}
 use Rattle.repair.proofs.Flags.{by_test, clash}
 use Rattle.repair.proofs.Repairing.{free_is}
 use Rattle.attackers.specs.declared.attack.Attack.{Attack}
@@ -23,7 +23,7 @@ use Rattle.certificate.specs.declared.extra.ExtraNeed.{ExtraNeed}
 use Rattle.attackers.specs.declared.faults.ExtraFault.TheVariants as fault
 use Rattle.attackers.specs.KnownCells.{is_attack, is_served, IsAttack}
 use Rattle.attackers.specs.Extras.{attack_of, subjects_of}
-use Rattle.attackers.specs.ExtraFaults.{is_free_at, may_be_extra, cells_fault, is_need_of, is_need_at, need_cells_fault, open_fault, attacks_fault}
+use Rattle.attackers.specs.ExtraFaults.{may_be_extra, cells_fault, is_need_of, is_need_at, need_cells_fault, open_fault, attacks_fault}
 use Rattle.attackers.proofs.AskedCells.{AttackSays, attack_says}
 
 -- ---- needs' cells

@@ -25,11 +25,11 @@ use Rattle.repair.specs.LevelQuestions.{IsLevelAnswer, HasCause}
 use Rattle.repair.proofs.Flags.{IsWithin, by_test, hidden_map, within_full}
 use Rattle.repair.proofs.Growing.{given_more}
 use Rattle.repair.proofs.Refuting.{reaching_test, share_full, hidden_or_none, refutation_alike}
-use Rattle.repair.proofs.Repairing.{given_refutes, none_is_more, last_same, hidden_cell, breaking_says}
+use Rattle.repair.proofs.Repairing.{given_refutes, each_more, none_is_more, last_same, hidden_cell, breaking_says}
 use Rattle.attackers.specs.declared.attack.Attack.{Attack}
 use Rattle.certificate.specs.declared.extra.ExtraNeed.{ExtraNeed}
 use Rattle.attackers.specs.KnownCells.{is_known, without_known, with_known, target_of, GuardsBefore, IsAttack}
-use Rattle.attackers.specs.Extras.{attack_of, subjects_of, Unguards, IsInTurn, EachExtra}
+use Rattle.attackers.specs.Extras.{attack_of, subjects_of, Unguards, IsInTurn}
 use Rattle.attackers.specs.ContributorTasks.{IsExtended, IsAnswerAgainst, IsRefutedAt, IsCannot, IsAsked}
 use Rattle.attackers.proofs.AskedCells.{AttackSays, attack_says}
 use Rattle.attackers.proofs.Knowing.{left_says, closed_says, without_within, all_guards_more, world_serves}
@@ -46,10 +46,6 @@ answer_is c soles flags attack (Reaches world) given =
 answer_is c soles flags attack (Stops m) given = (given_refutes c.system c.cells (without_known soles attack.row flags) (target_of attack) m given, given)
 
 -- ---- extra cells
-
-each_more : (Is : List Bool → ExtraNeed → Type 0) (flags : List Bool) (extras : List ExtraNeed) (extra : ExtraNeed) → EachExtra Is flags extras → Is (hide_cells flags (subjects_of extras)) extra → EachExtra Is flags (extras ++ extra ∷ [])
-each_more Is flags [] extra each is = (is, tt)
-each_more Is flags (one ∷ extras) extra each is = (each.0, each_more Is (hide flags one.subject) extras extra each.1 is)
 
 -- one extra cell more hides one cell more
 pub hidden_more : (flags : List Bool) (extras : List ExtraNeed) (extra : ExtraNeed) → hide_cells flags (subjects_of (extras ++ extra ∷ [])) ≡ hide (hide_cells flags (subjects_of extras)) extra.subject
@@ -69,7 +65,7 @@ none_extended c soles prices attacks first = record {
 pub one_extended : (c : Case) (soles : List (Option ℕ)) (prices : List ℕ) (attacks : List Attack) (first flags : List Bool) (extras : List ExtraNeed) (place : ℕ) (extra : ExtraNeed) → IsInTurn c soles prices attacks flags extra → slice_get attacks place ≡ Some (attack_of extra) → IsExtended c soles prices attacks first flags extras place → IsExtended c soles prices attacks first (hide flags extra.subject) (extras ++ extra ∷ []) place
 one_extended c soles prices attacks first flags extras place extra turn stands is = record {
   hidden_is = ap (λ (f : List Bool). hide f extra.subject) is.hidden_is ∙ sym (hidden_more first extras extra);
-  each = each_more (IsInTurn c soles prices attacks) first extras extra is.each (subst (λ (f : List Bool). IsInTurn c soles prices attacks f extra) is.hidden_is turn);
+  each = each_more (λ (e : ExtraNeed). e.subject) (IsInTurn c soles prices attacks) first extras extra is.each (subst (λ (f : List Bool). IsInTurn c soles prices attacks f extra) is.hidden_is turn);
   onward = λ earlier last same. (place, subst (λ (e : ExtraNeed). slice_get attacks place ≡ Some (attack_of e)) (last_same extras earlier extra last same) stands, omega arith);
 }
 

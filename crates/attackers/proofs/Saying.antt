@@ -19,11 +19,11 @@ use Rattle.certificate.specs.declared.extra.ExtraNeed.{ExtraNeed}
 use Rattle.certificate.specs.Numerals.{ascends_from}
 use Rattle.certificate.specs.ExtraTexts.{IsNeedSpellable}
 use Rattle.certificate.specs.Spelling.{IsWorldSpellable}
-use Rattle.repair.specs.HidingOrder.{Case}
+use Rattle.repair.specs.HidingOrder.{Case, is_free_at}
 use Rattle.attackers.specs.declared.faults.ExtraFault.TheVariants as fault
 use Rattle.attackers.specs.Extras.{attack_of}
 use Rattle.attackers.specs.AttackOrder.{attacks_of}
-use Rattle.attackers.specs.ExtraFaults.{is_free_at, may_be_extra, cells_fault, need_cells_fault, needs_fault, guard_cells_fault, guards_fault, attacks_fault, guarding_fault}
+use Rattle.attackers.specs.ExtraFaults.{may_be_extra, cells_fault, need_cells_fault, needs_fault, guard_cells_fault, guards_fault, attacks_fault, guarding_fault}
 use Rattle.attackers.specs.ExtraAcceptance.{IsExtraNeed}
 use Rattle.attackers.specs.Laws.{CanBeSaid, HaveText}
 use Rattle.attackers.proofs.AcceptedExtras.{needs_hold, guards_hold, not_false}

@@ -1,17 +1,16 @@
 -- How the extra cells of an answer came about.
-use Rattle.std.proofs.Common.{◌≡◌, ℕ, inl, inr, not, Bool, true, false, List, [], ◌∷◌, length, get_or, All, Option, ap, sym, ◌∙◌, subst, arith}
+use Rattle.std.proofs.Common.{◌≡◌, ℕ, Bool, true, List, [], ◌∷◌, length, get_or, All, Option, ap, sym, ◌∙◌, subst, arith}
 use Rattle.std.specs.List.{range_with_len}
-use Rattle.std.proofs.lemmas.List.{get_or-set_other}
 use Rattle.std.proofs.lemmas.List.Elements.{All-nil, All-head, All-tail, All-cons, filter_passes}
 use Rattle.sdc_base.specs.HiddenSets.{is_hidden, show, hide_cells}
 use Rattle.worlds.specs.declared.world.World.{World}
-use Rattle.worlds.proofs.TrueTests.{and_true, not_true}
 use Rattle.certificate.specs.declared.extra.Extra.{Extra}
 use Rattle.certificate.specs.declared.extra.ExtraNeed.{ExtraNeed}
 use Rattle.repair.specs.HidingOrder.{Case}
 use Rattle.repair.specs.Needs.{set_when_tried}
-use Rattle.repair.proofs.Flags.{IsWithin, clash, same_or_other, within_both, within_itself}
-use Rattle.repair.proofs.Tries.{show_within}
+use Rattle.repair.proofs.Flags.{IsWithin, within_both, within_itself}
+use Rattle.repair.proofs.TriedCells.{show_within}
+use Rattle.attackers.proofs.Tries.{first_less}
 use Rattle.attackers.specs.declared.attack.Attack.{Attack}
 use Rattle.attackers.specs.declared.extra.Guarded.{Guarded}
 use Rattle.attackers.specs.declared.extra.Guarded.TheVariants as guards
@@ -42,15 +41,7 @@ beside_first first flags n needs are =
 -- the first set stays hidden while a cell beside it is tried
 first_when_tried : (first flags larger : List Bool) (cell : ℕ) → ((k : ℕ) → is_hidden first k ≡ true → is_hidden flags k ≡ true) → ((k : ℕ) → is_hidden flags k ≡ true → is_hidden larger k ≡ true) → is_beside first flags cell ≡ true → IsWithin first (set_when_tried flags larger cell)
 first_when_tried first flags larger cell stays within beside =
-    let not_first : is_hidden first cell ≡ false = not_true (is_hidden first cell) (and_true (is_hidden flags cell) (not (is_hidden first cell)) beside).1 in
-    within_both first (show flags cell) (set_when_tried flags larger cell)
-    (record {
-      hides = λ k is. elim (same_or_other k cell) [
-        | inl same ↦ clash (is_hidden first cell) (subst (λ m. is_hidden first m ≡ true) same is) not_first
-        | inr other ↦ get_or-set_other flags cell k false false other ∙ stays k is
-      ];
-    })
-    (show_within flags larger cell within)
+    within_both first (show flags cell) (set_when_tried flags larger cell) (record { hides = first_less first flags cell beside stays }) (show_within flags larger cell within)
 
 -- a need for the first of the attacks that are left is one for the first of all
 need_all : (c : Case) (soles : List (Option ℕ)) (first set : List Bool) (Is : Attack → Type 0) (all left : List Attack) → IsThinned Is all left → IsLeftOut c soles first Is → IsWithin first set → (need : ExtraNeed) → IsNeedFor c soles left set need → IsNeedFor c soles all set need
@@ -72,7 +63,7 @@ left_of_turns task first worlds extra each_first protected attacks_are_left is =
     let Is : Attack → Type 0 = IsServedBy c.cells soles worlds in
     let each : length is.flags ≡ length c.cells = omega (arith, is.each, task.fits.one_each) in
     let cells_are : extra.cells ≡ cells_beside first is.flags (length is.flags) = is.cells_are ∙ is.tried.each_needed ∙ ap (λ n. cells_beside first is.flags n) (sym each) in
-    let set : hide_cells first extra.cells ≡ is.flags = ap (λ (l : List ℕ). hide_cells first l) cells_are ∙ hidden_beside first is.flags (each_first ∙ sym each) is.tried.first_stays in
+    let set : hide_cells first extra.cells ≡ is.flags = ap (λ (l : List ℕ). hide_cells first l) cells_are ∙ hidden_beside first is.flags (each_first ∙ sym each) is.first_stays in
     let thinned : IsThinned Is all left = subst (λ (l : List Attack). IsThinned Is all l) (sym attacks_are_left) (unserved_thinned c.cells soles worlds protected.count) in
     let out : IsLeftOut c soles first Is = left_out c soles first worlds protected in
     let beside : All (λ (need : ExtraNeed). is_beside first is.flags need.subject ≡ true) extra.needs = beside_first first is.flags (length c.cells) extra.needs is.tried.each_needed in
@@ -80,7 +71,7 @@ left_of_turns task first worlds extra each_first protected attacks_are_left is =
     λ k d within.
     let need : ExtraNeed = get_or extra.needs k d in
     need_all c soles first (set_when_tried is.flags is.larger need.subject) Is all left thinned out
-    (first_when_tried first is.flags is.larger need.subject is.tried.first_stays is.tried.within (beside k d within)) need (is.tried.are_needs k d within).refuted in
+    (first_when_tried first is.flags is.larger need.subject is.first_stays is.tried.within (beside k d within)) need (is.tried.are_needs k d within).refuted in
     record {
       turns = is.turns;
       in_turn = each_all c soles task.prices.now first first Is all left thinned out (within_itself first) is.turns is.in_turn;

@@ -13,6 +13,7 @@ use Rattle.repair.specs.HidingOrder.{Case, protected_case, IsOfKind, breaks_at, 
 use Rattle.repair.specs.Attempts.{IsPermittedSet}
 use Rattle.repair.specs.KeptWorlds.{shown_count}
 use Rattle.repair.specs.LevelQuestions.{AreGiven, HasCause}
+use Rattle.repair.specs.Repairs.{LastIsNotBehind}
 use Rattle.attackers.specs.declared.attack.Attack.{Attack}
 use Rattle.attackers.specs.declared.attack.UnguardedAttack.{UnguardedAttack}
 use Rattle.certificate.specs.declared.extra.ExtraNeed.{ExtraNeed}
@@ -21,7 +22,7 @@ use Rattle.attackers.specs.declared.contributor_task.ContributorTask.{Contributo
 use Rattle.repair.specs.declared.step.Step.{Step}
 use Rattle.repair.specs.declared.step.Step.TheVariants.{Served, Widened, Cannot}
 use Rattle.attackers.specs.KnownCells.{with_known, without_known, target_of, Guards, GuardsBefore, serves, is_served}
-use Rattle.attackers.specs.Extras.{subjects_of, Unguards, IsInTurn, EachExtra, LastIsNotBehind}
+use Rattle.attackers.specs.Extras.{subjects_of, Unguards, IsInTurn, EachExtra, IsForAttackAt}
 use Rattle.attackers.specs.WholeGuards.{IsWholeGuard}
 
 -- what is to be guarded
@@ -56,7 +57,7 @@ pub record IsExtended (c : Case) (soles : List (Option ℕ)) (prices : List ℕ)
     (first flags : List Bool) (extras : List ExtraNeed) (place : ℕ) : Type 0 where
   pub hidden_is : flags ≡ hide_cells first (subjects_of extras)
   pub each : EachExtra (IsInTurn c soles prices attacks) first extras
-  pub onward : LastIsNotBehind attacks extras place
+  pub onward : LastIsNotBehind (IsForAttackAt attacks) extras place
 
 -- the same of a task
 abbrev pub IsExtendedUpTo : ContributorTask → ℕ → List Bool → Progress WorldLine ExtraNeed → Type 0

@@ -1,14 +1,13 @@
 -- Extra cells that are tried as shown, one after another (own).
-use Rattle.std.specs.Prelude.{◌≡◌, ◌≢◌, ℕ, ◌+◌, ◌<◌, ◌==◌, ◌&&◌, not, Bool, true, List, [], ◌∷◌, ◌++◌, filter, drop, take, slice_get, All, Option, None, Some}
-use Rattle.std.specs.List.{list_any, range_with_len}
+use Rattle.std.specs.Prelude.{◌≡◌, ℕ, ◌+◌, ◌==◌, not, Bool, List, ◌++◌, filter, take, slice_get, Option, None, Some}
+use Rattle.std.specs.List.{list_any}
 use Rattle.sdc_base.specs.HiddenSets.{is_hidden, IsPermitted}
 use Rattle.interval_audit.specs.declared.answer.AskFault.{AskFault}
-use Rattle.interval_audit.specs.declared.answer.AskFault.TheVariants.{Work, Wide, Size, Memory}
 use Rattle.certificate.specs.declared.certificate.WorldLine.{WorldLine}
-use Rattle.repair.specs.HidingOrder.{Case, show_all}
+use Rattle.repair.specs.HidingOrder.{Case, IsSubset}
 use Rattle.repair.specs.LevelQuestions.{AreGiven}
-use Rattle.repair.specs.Needs.{set_when_tried}
-use Rattle.repair.specs.Stops.{Ascend}
+use Rattle.repair.specs.TriedCells.{is_open, open_cells, AreShownAgain, StopsTrying, AreTried}
+use Rattle.repair.specs.WantOfMemory.{UnlessMemory}
 use Rattle.attackers.specs.declared.attack.Attack.{Attack}
 use Rattle.certificate.specs.declared.extra.ExtraNeed.{ExtraNeed}
 use Rattle.repair.specs.declared.progress.Progress.{Progress}
@@ -17,7 +16,7 @@ use Rattle.attackers.specs.declared.trial.Trial.{Trial}
 use Rattle.attackers.specs.declared.trial.Trial.TheVariants.{Renewed, Refused}
 use Rattle.repair.specs.declared.trials.Trials.{Trials}
 use Rattle.attackers.specs.KnownCells.{without_known, target_of, GuardsAll, GuardsBefore}
-use Rattle.attackers.specs.Extras.{attack_of, subjects_of, Unguards}
+use Rattle.attackers.specs.Extras.{attack_of, Unguards}
 use Rattle.attackers.specs.ContributorTasks.{case_of, HoldGuards, AreGuardsOf, IsReadySet, IsAsked}
 
 -- a guard's world doesn't move the cell
@@ -28,13 +27,17 @@ stays cell line = not (list_any (λ one. one.cell == cell) line.world.moves)
 abbrev pub renewed_guards : ℕ → List WorldLine → List WorldLine → List WorldLine
 renewed_guards cell guards news = filter (stays cell) guards ++ news
 
+-- a cell that the first set doesn't hide may be shown
+abbrev pub may_drop : List Bool → ℕ → Bool
+may_drop first cell = not (is_hidden first cell)
+
 -- the cell is hidden beside the first set
 abbrev pub is_beside : List Bool → List Bool → ℕ → Bool
-is_beside first flags cell = is_hidden flags cell && not (is_hidden first cell)
+is_beside first flags cell = is_open (may_drop first) flags cell
 
 -- the cells below a number that are hidden beside the first set, ascending
 abbrev pub cells_beside : List Bool → List Bool → ℕ → List ℕ
-cells_beside first flags n = filter (is_beside first flags) (range_with_len 0 n)
+cells_beside first flags n = open_cells (may_drop first) flags n
 
 -- Extra cells may be tried as shown: the first set is permitted, the task may ask of the hidden set, and guards hold
 -- against all attacks.
@@ -79,64 +82,41 @@ abbrev pub HasFaultOf : ContributorTask → List Bool → AskFault → ℕ → T
 HasFaultOf task flags fault row =
     HasFault (case_of task) task.soles.now task.attacks.now flags task.limit fault row
 
--- a need of a cell below a number: its multipliers refute for the cells that were hidden when it was tried
-pub record IsNeedBelow (c : Case) (soles : List (Option ℕ)) (attacks : List Attack) (flags larger : List Bool) (n : ℕ) (need : ExtraNeed)
-    : Type 0 where
-  pub below : need.subject < n
-  pub refuted : IsNeedFor c soles attacks (set_when_tried flags larger need.subject) need
+-- The extra cells that were dropped, from the set of all open cells: with the last of them put back the set guards
+-- against all attacks, and each other was needed when it was tried.
+abbrev pub AreDropped : Case → List (Option ℕ) → List Attack → List Bool → List Bool → List ℕ → Type 0
+AreDropped c soles attacks first larger dropped =
+    AreShownAgain (λ flags. GuardsAll c soles flags attacks) (may_drop first) larger dropped
 
--- The cells that were dropped, from the set of all open cells: ascending, and hidden beside the first set; with the last
--- of them, which was being tried, put back the set guards against all attacks; and each extra cell below the last that
--- stayed hidden was needed when it was tried.
-pub record AreDropped (c : Case) (soles : List (Option ℕ)) (attacks : List Attack) (first larger : List Bool)
-    (dropped : List ℕ) : Type 0 where
-  pub ascending : Ascend dropped
-  pub are_extra : All (λ cell. is_beside first larger cell ≡ true) dropped
-  pub guarded_before : (earlier : List ℕ) (last : ℕ) → dropped ≡ earlier ++ last ∷ []
-      → GuardsAll c soles (show_all larger earlier) attacks
-  pub others_needed : (earlier : List ℕ) (last cell : ℕ) → dropped ≡ earlier ++ last ∷ [] → cell < last
-      → is_beside first (show_all larger dropped) cell ≡ true
-      → ¬ GuardsAll c soles (set_when_tried (show_all larger dropped) larger cell) attacks
+-- The extra cells below a number have been tried, from the set of all open cells on: the set that is left guards against
+-- all attacks, and each extra cell that is left has its need, whose multipliers refute for the set when it was tried.
+abbrev pub IsTried : Case → List (Option ℕ) → List Attack → List Bool → List Bool → ℕ → List Bool → List ExtraNeed
+    → List ℕ → Type 0
+IsTried c soles attacks first larger n flags needs dropped =
+    AreTried (λ need. need.subject) (IsNeedFor c soles attacks) (λ set. GuardsAll c soles set attacks) (may_drop first)
+    larger n flags needs dropped
 
--- The extra cells below a number have been tried, from the set of all open cells on: the hidden set is what is left
--- without those that were dropped, guards hold against all attacks, and each extra cell that is left has its need.
-pub record IsTried (c : Case) (soles : List (Option ℕ)) (attacks : List Attack) (first larger : List Bool) (n : ℕ)
-    (flags : List Bool) (guards : List WorldLine) (needs : List ExtraNeed) (dropped : List ℕ) : Type 0 where
-  pub hidden_is : flags ≡ show_all larger dropped
-  pub within : (cell : ℕ) → is_hidden flags cell ≡ true → is_hidden larger cell ≡ true
-  pub first_stays : (cell : ℕ) → is_hidden first cell ≡ true → is_hidden flags cell ≡ true
-  pub rest : drop n flags ≡ drop n larger
-  pub holds : HoldGuards c soles flags attacks guards
-  pub each_needed : subjects_of needs ≡ cells_beside first flags n
-  pub are_needs : All (IsNeedBelow c soles attacks flags larger n) needs
-  pub ascending : Ascend dropped
-  pub below : All (λ cell. cell < n) dropped
-  pub are_extra : All (λ cell. is_beside first larger cell ≡ true) dropped
-
--- so far has a task come with trying extra cells, by its progress and its findings
-abbrev pub HasTried : ContributorTask → List Bool → List Bool → ℕ → Progress WorldLine ExtraNeed → Trials ExtraNeed
-    → Type 0
-HasTried task first larger n progress found =
-    IsTried (case_of task) task.soles.now task.attacks.now first larger n progress.hidden.flags progress.tables
-    found.needs found.shown
+-- So far has a task come with trying extra cells, by its progress and its findings: the tables that are kept are guards
+-- that hold against all attacks, and the first set stays hidden.
+pub record HasTried (task : ContributorTask) (first larger : List Bool) (n : ℕ)
+    (progress : Progress WorldLine ExtraNeed) (found : Trials ExtraNeed) : Type 0 where
+  pub are_tried : IsTried (case_of task) task.soles.now task.attacks.now first larger n progress.hidden.flags
+      found.needs found.shown
+  pub holds : AreGuardsOf task progress.hidden.flags task.attacks.now progress.tables
+  pub first_stays : IsSubset first progress.hidden.flags
 
 -- a question has a fault while a cell, the last of those dropped, is being tried
-pub record IsTryStop (c : Case) (soles : List (Option ℕ)) (attacks : List Attack) (first larger : List Bool)
-    (limit : ℕ) (fault : AskFault) (row : ℕ) (dropped : List ℕ) : Type 0 where
-  pub are_dropped : AreDropped c soles attacks first larger dropped
-  pub drops_a_cell : dropped ≢ []
-  pub has_fault : HasFault c soles attacks (show_all larger dropped) limit fault row
+abbrev pub IsTryStop : Case → List (Option ℕ) → List Attack → List Bool → List Bool → ℕ → AskFault → ℕ → List ℕ
+    → Type 0
+IsTryStop c soles attacks first larger limit fault row dropped =
+    StopsTrying (λ flags. GuardsAll c soles flags attacks) (may_drop first)
+    (λ set. HasFault c soles attacks set limit fault row) larger dropped
 
 -- the same, but nothing under want of memory
 abbrev pub TriesStopFor : ContributorTask → List Bool → List Bool → AskFault → ℕ → List ℕ → Type 0
-TriesStopFor task first larger Memory row dropped = Unit {0}
-TriesStopFor task first larger (Work walk) row dropped =
-    IsTryStop (case_of task) task.soles.now task.attacks.now first larger task.limit (Work walk) row dropped
-TriesStopFor task first larger (Wide walk place) row dropped =
-    IsTryStop (case_of task) task.soles.now task.attacks.now first larger task.limit (Wide walk place) row dropped
-TriesStopFor task first larger (Size question hidden) row dropped =
-    IsTryStop (case_of task) task.soles.now task.attacks.now first larger task.limit (Size question hidden) row
-    dropped
+TriesStopFor task first larger fault row dropped =
+    UnlessMemory fault
+    (IsTryStop (case_of task) task.soles.now task.attacks.now first larger task.limit fault row dropped)
 
 -- from whatever set the extra cells below a number had been tried, those up to it have been
 abbrev pub IsCellTrial : ContributorTask → List Bool → ℕ → Progress WorldLine ExtraNeed → Trials ExtraNeed

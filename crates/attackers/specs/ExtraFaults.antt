@@ -3,13 +3,13 @@ use Rattle.std.specs.Prelude.{ℕ, ◌+◌, ◌==◌, ◌&&◌, nat_le, not, Boo
 use Rattle.std.specs.Option.{option_map_or}
 use Rattle.sdc_base.specs.Steps.{◌>>=◌, refuse, map_fault}
 use Rattle.sdc_base.specs.declared.cell.Cell.{Cell}
-use Rattle.sdc_base.specs.Kinds.{is_free, is_primary_at}
+use Rattle.sdc_base.specs.Kinds.{is_primary_at}
 use Rattle.sdc_base.specs.HiddenSets.{is_hidden, show, hide_cells}
 use Rattle.worlds.specs.ProtectFaults.{line_number}
 use Rattle.worlds.specs.RefutationFaults.{refutation_fault}
 use Rattle.worlds.specs.WorldFaults.{world_fault}
 use Rattle.certificate.specs.declared.certificate.WorldLine.{WorldLine}
-use Rattle.repair.specs.HidingOrder.{Case}
+use Rattle.repair.specs.HidingOrder.{Case, is_free_at}
 use Rattle.repair.specs.Laws.{rank}
 use Rattle.attackers.specs.declared.attack.Attack.{Attack}
 use Rattle.certificate.specs.declared.extra.ExtraNeed.{ExtraNeed}
@@ -29,10 +29,6 @@ extra_fault_of (fault.GuardCell k) = Some (fault.GuardCell k)
 extra_fault_of (fault.Guard k why) = Some (fault.Guard k why)
 extra_fault_of (fault.Open row cell side) = Some (fault.Open row cell side)
 extra_fault_of fault.Memory = None
-
--- the cell with this number is free
-abbrev pub is_free_at : List Cell → ℕ → Bool
-is_free_at cells cell = option_map_or (λ one. is_free one.kind) (slice_get cells cell) false
 
 -- a cell may be the next extra one: it isn't below the least that is left, is free, and isn't hidden
 abbrev pub may_be_extra : List Cell → List Bool → ℕ → ℕ → Bool

@@ -1,10 +1,10 @@
 -- Extra cells: cells hidden one after another against attacks, each against a refutation (own).
-use Rattle.std.specs.Prelude.{◌≡◌, ℕ, ◌≤◌, Bool, List, [], ◌∷◌, ◌++◌, map, slice_get, Some, Option}
+use Rattle.std.specs.Prelude.{◌≡◌, ℕ, Bool, List, map, slice_get, Some, Option}
 use Rattle.worlds.specs.declared.multipliers.Multipliers.{Multipliers}
 use Rattle.worlds.specs.RefutationFaults.{IsGivenRefutation}
 use Rattle.repair.specs.HidingOrder.{Case, coefficients_for, IsCheapest}
-use Rattle.sdc_base.specs.HiddenSets.{hide}
 use Rattle.repair.specs.LevelQuestions.{AreGiven}
+use Rattle.repair.specs.Repairs.{EachInTurn}
 use Rattle.attackers.specs.declared.attack.Attack.{Attack}
 use Rattle.certificate.specs.declared.extra.ExtraNeed.{ExtraNeed}
 use Rattle.attackers.specs.KnownCells.{without_known, with_known, target_of, GuardsBefore}
@@ -38,11 +38,8 @@ pub record IsInTurn (c : Case) (soles : List (Option ℕ)) (prices : List ℕ) (
 
 -- each extra cell is so for the hidden set that the earlier ones made of this one
 abbrev pub EachExtra : (List Bool → ExtraNeed → Type 0) → List Bool → List ExtraNeed → Type 0
-EachExtra Is flags [] = Unit {0}
-EachExtra Is flags (extra ∷ extras) = Is flags extra × EachExtra Is (hide flags extra.subject) extras
+EachExtra Is flags extras = EachInTurn (λ extra. extra.subject) Is flags extras
 
--- the last extra cell, where there is one, is for an attack that doesn't stand behind this place
-abbrev pub LastIsNotBehind : List Attack → List ExtraNeed → ℕ → Type 0
-LastIsNotBehind attacks extras place =
-    (earlier : List ExtraNeed) (last : ExtraNeed) → extras ≡ earlier ++ last ∷ []
-    → (own : ℕ) × (slice_get attacks own ≡ Some (attack_of last)) × (own ≤ place)
+-- the attack for which an extra cell is hidden stands at this place
+abbrev pub IsForAttackAt : List Attack → ExtraNeed → ℕ → Type 0
+IsForAttackAt attacks extra place = slice_get attacks place ≡ Some (attack_of extra)

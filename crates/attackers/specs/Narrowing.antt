@@ -5,11 +5,12 @@ use Rattle.worlds.specs.ProtectFaults.{asked_of}
 use Rattle.certificate.specs.declared.certificate.WorldLine.{WorldLine}
 use Rattle.certificate.specs.declared.extra.Extra.{Extra}
 use Rattle.certificate.specs.declared.extra.ExtraNeed.{ExtraNeed}
+use Rattle.repair.specs.HidingOrder.{IsSubset}
 use Rattle.attackers.specs.declared.extra.Guarded.{Guarded}
 use Rattle.attackers.specs.declared.extra.Guarded.TheVariants.{Guards, CannotAgainst}
 use Rattle.attackers.specs.declared.contributor_task.ContributorTask.{ContributorTask}
 use Rattle.attackers.specs.Extras.{subjects_of, IsInTurn, EachExtra}
-use Rattle.attackers.specs.ContributorTasks.{case_of, IsCannot}
+use Rattle.attackers.specs.ContributorTasks.{case_of, AreGuardsOf, IsCannot}
 use Rattle.attackers.specs.Dropping.{IsTried}
 use Rattle.attackers.specs.Guarding.{guards_in_order}
 
@@ -24,7 +25,9 @@ pub record IsNarrowed (task : ContributorTask) (first : List Bool) (extra : Extr
   pub guards : List WorldLine
   pub dropped : List ℕ
   pub tried : IsTried (case_of task) task.soles.now task.attacks.now first larger (length task.cells.now) flags
-      guards extra.needs dropped
+      extra.needs dropped
+  pub holds : AreGuardsOf task flags task.attacks.now guards
+  pub first_stays : IsSubset first flags
   pub each : length flags ≡ task.system.now.cells
   pub permitted : IsPermitted task.cells.now flags
   pub cells_are : extra.cells ≡ subjects_of extra.needs

@@ -16,6 +16,7 @@ use crate::faults::ExtraFault;
 use crate::known::{is_attack, is_primary_at, without_known};
 use crate::meeting::check_attacks;
 use certificate::{Extra, ExtraNeed, WorldLine};
+use repair::is_free_at;
 use sdc_base::{Cell, Hidden, Memory, Side, System, is_hidden};
 use std::alloc::Global;
 use worlds::{Pattern, check_refutation, check_world};
@@ -108,16 +109,6 @@ fn may_be_extra(cells: &[Cell], flags: &[bool], least: u64, cell: u32) -> bool
     ensures { result ≡ spec.may_be_extra cells.now flags.now least cell }
 {
     least <= u64::from(cell) && is_free_at(cells, cell) && !is_hidden(flags, cell as usize)
-}
-
-// Whether the cell with this number is free.
-fn is_free_at(cells: &[Cell], cell: u32) -> bool
-    ensures { result ≡ spec.is_free_at cells.now cell }
-{
-    match cells.get(cell as usize) {
-        Some(one) => one.kind.is_free(),
-        None => false,
-    }
 }
 
 // The first fault of the needs' cells.

@@ -1,5 +1,5 @@
 ghost use Rattle.std.specs.Prelude.{◌≡◌, []};
-ghost use Rattle.repair.specs.Stops.{list_with_fault};
+ghost use Rattle.repair.specs.WantOfMemory.{list_with_fault};
 ghost use Rattle.attackers.specs.GuardStops.{row_with_fault};
 ghost use Rattle.attackers.specs.WholeGuards.{IsWholeGuardStop};
 

@@ -1,27 +1,28 @@
 -- What a protection comes to.
 use Rattle.std.proofs.Common.{◌≡◌, ℕ, Bool, true, List, [], length, IsTrue, ◌↔◌, Result, Ok, Err, IfOk, refl, sym, subst, arith}
 use Rattle.std.proofs.lemmas.List.Elements.{All-nil}
-use Rattle.sdc_base.specs.declared.cell.Kind.TheVariants.{Free}
 use Rattle.sdc_base.specs.declared.hidden.Hidden.{Hidden}
-use Rattle.sdc_base.specs.HiddenSets.{is_hidden, full_set}
+use Rattle.sdc_base.specs.HiddenSets.{full_set}
 use Rattle.worlds.specs.declared.refuted.Refuted.{Refuted}
 use Rattle.worlds.specs.declared.world.World.{World}
 use Rattle.worlds.specs.Protection.{Protection, protection}
 use Rattle.worlds.specs.ProtectFaults.{asked_of, IsProtecting}
 use Rattle.interval_audit.specs.declared.answer.AskFault.{AskFault}
-use Rattle.interval_audit.specs.declared.answer.AskFault.TheVariants.{Work, Wide, Size, Memory}
-use Rattle.repair.specs.HidingOrder.{Case, ProtectsAll, IsOfKind, IsSubset, hide_subjects}
+use Rattle.repair.specs.HidingOrder.{Case, ProtectsAll, is_free_at, IsSubset, hide_subjects}
 use Rattle.repair.specs.Repairs.{AreRepairs}
 use Rattle.repair.specs.CellTrials.{IsTryStop, TriesStopFor}
 use Rattle.repair.specs.KeptWorlds.{AreServed, IsRepaired}
 use Rattle.repair.specs.OnTheWay.{IsOnWay, AreAnswers}
 use Rattle.repair.specs.QuestionSteps.{IsHalted}
-use Rattle.repair.specs.Stops.{list_with_fault, AreShown, IsQuestion, IsStop, StopsFor}
+use Rattle.repair.specs.Stops.{AreShown, IsQuestion, IsStop, StopsFor}
+use Rattle.repair.specs.TriedCells.{is_open}
+use Rattle.repair.specs.WantOfMemory.{list_with_fault}
 use Rattle.repair.specs.Verdicts.{IsProtected, IsVerdict, is_cannot}
 use Rattle.repair.specs.declared.verdict.Verdict.{Verdict}
 use Rattle.repair.specs.declared.verdict.Verdict.TheVariants.{Protected, Cannot}
 use Rattle.repair.proofs.Order.{asked_primary}
 use Rattle.repair.proofs.Tries.{protects_side}
+use Rattle.repair.proofs.WantOfMemory.{unless_memory, memory_more, lists_told}
 use Rattle.repair.proofs.Flags.{within_full}
 use Rattle.repair.proofs.Growing.{served_protect, all_protected_more}
 use Rattle.repair.proofs.Repairing.{none_is_more, hidden_cell}
@@ -47,9 +48,8 @@ protected_by c prices planned hidden worlds repairs p made one_each each protect
 none_shown_yet : (c : Case) (larger : List Bool) → AreShown c larger []
 none_shown_yet c larger = record {
   ascending = tt;
-  are_free = All-nil (λ cell. IsOfKind c.cells cell Free);
-  are_open = All-nil (λ cell. is_hidden larger cell ≡ true);
-  protected_before = λ earlier last is. absurd (none_is_more earlier last is);
+  are_open = All-nil (λ cell. is_open (is_free_at c.cells) larger cell ≡ true);
+  held_before = λ earlier last is. absurd (none_is_more earlier last is);
   others_needed = λ earlier last cell is. absurd (none_is_more earlier last is);
 }
 
@@ -64,10 +64,8 @@ stop_by c prices planned flags repairs limit fault is = record {
 }
 
 pub stops_for : (c : Case) (prices : List ℕ) (planned flags : List Bool) (repairs : List Refuted) (limit : ℕ) (fault : AskFault) → IsHalted c prices planned flags repairs limit fault → StopsFor c prices planned limit fault (list_with_fault fault repairs) (list_with_fault fault [])
-stops_for c prices planned flags repairs limit (Work walk) is = stop_by c prices planned flags repairs limit (Work walk) is
-stops_for c prices planned flags repairs limit (Wide walk place) is = stop_by c prices planned flags repairs limit (Wide walk place) is
-stops_for c prices planned flags repairs limit (Size question hidden) is = stop_by c prices planned flags repairs limit (Size question hidden) is
-stops_for c prices planned flags repairs limit Memory is = (refl, refl)
+stops_for c prices planned flags repairs limit fault is =
+    lists_told (IsStop c prices planned limit fault) fault repairs [] (unless_memory fault (stop_by c prices planned flags repairs limit fault is))
 
 -- a question that has a fault while a cell is tried
 try_stop_by : (c : Case) (prices : List ℕ) (planned flags : List Bool) (repairs : List Refuted) (place : ℕ) (limit : ℕ) (fault : AskFault) (shown : List ℕ) → IsRepaired c prices planned flags repairs place → IsTryStop c flags limit fault shown → IsStop c prices planned limit fault repairs shown
@@ -76,16 +74,14 @@ try_stop_by c prices planned flags repairs place limit fault shown is stop =
     record {
       are_repairs = is.are_repairs;
       are_shown = own.are_shown;
-      place = own.has_fault.0;
-      question = own.has_fault.1;
+      place = own.stops.0;
+      question = own.stops.1;
       onward = λ none. absurd (own.shows_a_cell none);
     }
 
 pub stops_trying : (c : Case) (prices : List ℕ) (planned flags : List Bool) (repairs : List Refuted) (place : ℕ) (limit : ℕ) (fault : AskFault) (shown : List ℕ) → IsRepaired c prices planned flags repairs place → TriesStopFor c flags limit fault shown → StopsFor c prices planned limit fault (list_with_fault fault repairs) (list_with_fault fault shown)
-stops_trying c prices planned flags repairs place limit (Work walk) shown is stop = try_stop_by c prices planned flags repairs place limit (Work walk) shown is stop
-stops_trying c prices planned flags repairs place limit (Wide walk at) shown is stop = try_stop_by c prices planned flags repairs place limit (Wide walk at) shown is stop
-stops_trying c prices planned flags repairs place limit (Size question hidden) shown is stop = try_stop_by c prices planned flags repairs place limit (Size question hidden) shown is stop
-stops_trying c prices planned flags repairs place limit Memory shown is stop = (refl, refl)
+stops_trying c prices planned flags repairs place limit fault shown is stop =
+    lists_told (IsStop c prices planned limit fault) fault repairs shown (memory_more (Unit {0}) fault (try_stop_by c prices planned flags repairs place limit fault shown is) stop)
 
 -- a verdict is that a cell can't be protected exactly where the full set doesn't protect all
 pub cannot_where : (c : Case) (prices : List ℕ) (planned : List Bool) (verdict : Verdict) → IsVerdict c prices planned verdict → IsTrue (is_cannot verdict) ↔ ¬ ProtectsAll c (full_set c.cells)

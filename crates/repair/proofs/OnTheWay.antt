@@ -22,7 +22,7 @@ use Rattle.repair.specs.CellTrials.{fits, offered, IsTrialAnswer, AreTrialAnswer
 use Rattle.repair.specs.QuestionSteps.{IsRepairedUpTo}
 use Rattle.repair.specs.Tasks.{case_of}
 use Rattle.repair.proofs.Repairing.{none_repaired, on_to_next}
-use Rattle.repair.proofs.Tries.{tried_now, tried_same}
+use Rattle.repair.proofs.TriedCells.{tried_now, tried_same}
 
 -- ---- answers for some sets
 

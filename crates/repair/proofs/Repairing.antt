@@ -1,5 +1,5 @@
 -- One repair after another.
-use Rattle.std.proofs.Common.{◌≡◌, ◌≢◌, ℕ, zero, suc, ◌+◌, ◌<◌, ◌&&◌, not, Bool, true, false, List, [], ◌∷◌, ◌++◌, length, take, get_or, None, Some, slice_get, pos, refl, ap, sym, ◌∙◌, subst, arith}
+use Rattle.std.proofs.Common.{◌≡◌, ◌≢◌, ℕ, zero, suc, ◌+◌, ◌<◌, ◌&&◌, not, Bool, true, false, List, [], ◌∷◌, ◌++◌, length, map, take, get_or, None, Some, slice_get, pos, refl, ap, sym, ◌∙◌, subst, arith}
 use Rattle.std.specs.Ordering.{int_eq}
 use Rattle.std.specs.Option.{option_map_or}
 use Rattle.std.proofs.lemmas.Bool.Decides.{Decides-int_eq}
@@ -12,7 +12,7 @@ use Rattle.sdc_base.specs.declared.cell.Kind.TheVariants.{Primary, Free, Fixed}
 use Rattle.sdc_base.specs.declared.side.Side.{Side}
 use Rattle.sdc_base.specs.declared.system.System.{System}
 use Rattle.sdc_base.specs.Systems.{Numbers}
-use Rattle.sdc_base.specs.HiddenSets.{is_hidden, IsPermitted, full_set, hide}
+use Rattle.sdc_base.specs.HiddenSets.{is_hidden, IsPermitted, full_set, hide, hide_cells}
 use Rattle.sdc_base.specs.Worlds.{Protects}
 use Rattle.worlds.specs.declared.multipliers.Multipliers.{Multipliers}
 use Rattle.worlds.specs.declared.refuted.Refuted.{Refuted}
@@ -22,10 +22,9 @@ use Rattle.worlds.specs.RefutationFaults.{IsGivenRefutation}
 use Rattle.worlds.proofs.TrueTests.{and_true, not_true}
 use Rattle.worlds.proofs.RefutationLaws.{no_world}
 use Rattle.interval_audit.specs.declared.answer.AskFault.{AskFault}
-use Rattle.interval_audit.specs.declared.answer.AskFault.TheVariants.{Work, Wide, Size, Memory}
-use Rattle.repair.specs.LevelQuestions.{AreGiven, IsGiven, IsCausing, HasCause}
+use Rattle.repair.specs.LevelQuestions.{AreGiven, IsGiven, HasCause}
 use Rattle.repair.specs.HidingOrder.{Case, IsOfKind, hide_subjects, breaks, breaks_at, coefficients_for, NoneBreaks, IsCheapest, StandsAt}
-use Rattle.repair.specs.Repairs.{cell_and_side, IsJustified, IsInOrder, EachRepair, AreRepairs}
+use Rattle.repair.specs.Repairs.{cell_and_side, IsJustified, IsInOrder, EachInTurn, AreRepairs}
 use Rattle.repair.specs.KeptWorlds.{IsServing, AreServed, AreServedBefore, IsRepaired, IsStopped}
 use Rattle.repair.specs.Stops.{IsQuestion}
 use Rattle.repair.specs.Verdicts.{IsCannot}
@@ -45,9 +44,14 @@ last_same [] (b ∷ ys) x y is = absurd (none_is_more ys y (let own : [] ≡ ys 
 last_same (a ∷ xs) [] x y is = absurd (none_is_more xs x (let own : [] ≡ xs ++ x ∷ [] = cc in own))
 last_same (a ∷ xs) (b ∷ ys) x y is = last_same xs ys x y (let own : xs ++ x ∷ [] ≡ ys ++ y ∷ [] = cc in own)
 
-each_more : (Is : List Bool → Refuted → Type 0) (flags : List Bool) (repairs : List Refuted) (repair : Refuted) → EachRepair Is flags repairs → Is (hide_subjects flags repairs) repair → EachRepair Is flags (repairs ++ repair ∷ [])
-each_more Is flags [] repair each is = (is, tt)
-each_more Is flags (one ∷ repairs) repair each is = (each.0, each_more Is (hide flags one.subject) repairs repair each.1 is)
+-- one more that is so for the set that the others made
+pub each_more : {R : Type 0} (subject : R → ℕ) (Is : List Bool → R → Type 0) (flags : List Bool) (all : List R) (one : R) → EachInTurn subject Is flags all → Is (hide_cells flags (map subject all)) one → EachInTurn subject Is flags (all ++ one ∷ [])
+each_more subject Is flags [] one each is = (is, tt)
+each_more subject Is flags (first ∷ all) one each is = (each.0, each_more subject Is (hide flags (subject first)) all one each.1 is)
+
+by_subjects : (flags : List Bool) (repairs : List Refuted) → hide_subjects flags repairs ≡ hide_cells flags (map (λ (r : Refuted). r.subject) repairs)
+by_subjects flags [] = refl
+by_subjects flags (repair ∷ repairs) = by_subjects (hide flags repair.subject) repairs
 
 -- before any repair
 pub none_repaired : (c : Case) (prices : List ℕ) (planned : List Bool) → IsRepaired c prices planned planned [] 0
@@ -59,14 +63,16 @@ none_repaired c prices planned = record {
 
 -- one repair more, of the question at this place
 pub one_repaired : (c : Case) (prices : List ℕ) (planned flags : List Bool) (repairs : List Refuted) (place : ℕ) (repair : Refuted) → IsJustified c flags repair → IsInOrder c prices flags repair → StandsAt c.cells (cell_and_side repair) place → IsRepaired c prices planned flags repairs place → IsRepaired c prices planned (hide flags repair.subject) (repairs ++ repair ∷ []) place
-one_repaired c prices planned flags repairs place repair justified ordered stands is = record {
-  hidden_is = ap (λ (f : List Bool). hide f repair.subject) is.hidden_is ∙ sym (repaired_more planned repairs repair);
-  are_repairs = record {
-    justified = each_more (IsJustified c) planned repairs repair is.are_repairs.justified (subst (λ f. IsJustified c f repair) is.hidden_is justified);
-    ordered = each_more (IsInOrder c prices) planned repairs repair is.are_repairs.ordered (subst (λ f. IsInOrder c prices f repair) is.hidden_is ordered);
-  };
-  onward = λ earlier last same. (place, subst (λ (r : Refuted). StandsAt c.cells (cell_and_side r) place) (last_same repairs earlier repair last same) stands, omega arith);
-}
+one_repaired c prices planned flags repairs place repair justified ordered stands is =
+    let set_is : flags ≡ hide_cells planned (map (λ (r : Refuted). r.subject) repairs) = is.hidden_is ∙ by_subjects planned repairs in
+    record {
+      hidden_is = ap (λ (f : List Bool). hide f repair.subject) is.hidden_is ∙ sym (repaired_more planned repairs repair);
+      are_repairs = record {
+        justified = each_more (λ (r : Refuted). r.subject) (IsJustified c) planned repairs repair is.are_repairs.justified (subst (λ (f : List Bool). IsJustified c f repair) set_is justified);
+        ordered = each_more (λ (r : Refuted). r.subject) (IsInOrder c prices) planned repairs repair is.are_repairs.ordered (subst (λ (f : List Bool). IsInOrder c prices f repair) set_is ordered);
+      };
+      onward = λ earlier last same. (place, subst (λ (r : Refuted). StandsAt c.cells (cell_and_side r) place) (last_same repairs earlier repair last same) stands, omega arith);
+    }
 
 -- the next place
 pub on_to_next : (c : Case) (prices : List ℕ) (planned flags : List Bool) (repairs : List Refuted) (place : ℕ) → IsRepaired c prices planned flags repairs place → IsRepaired c prices planned flags repairs (place + 1)
@@ -165,13 +171,6 @@ serving_by c flags place question world stands given = subst (λ (set : List Boo
 -- multipliers that are answered refute the level
 pub given_refutes : (system : System) (cells : List Cell) (flags : List Bool) (question : ℕ × Side) (m : Multipliers) → AreGiven system cells flags question m → IsGivenRefutation system cells flags question.0 question.1 m
 given_refutes system cells flags question m given = stopping_refutes system cells flags question given.question given.best given.world m given.is_asked given.is_right
-
--- a fault that a question has
-pub cause_of : (system : System) (cells : List Cell) (flags : List Bool) (question : ℕ × Side) (limit : ℕ) (fault : AskFault) → IsCausing system cells flags question limit fault → HasCause system cells flags question limit fault
-cause_of system cells flags question limit (Work walk) is = is
-cause_of system cells flags question limit (Wide walk place) is = is
-cause_of system cells flags question limit (Size asking hidden) is = is
-cause_of system cells flags question limit Memory is = tt
 
 -- the question at a place, with a cause in the hidden set
 pub question_of : (c : Case) (flags : List Bool) (place : ℕ) (question : ℕ × Side) (worlds : List World) (limit : ℕ) (fault : AskFault) → StandsAt c.cells question place → AreServedBefore c flags place worlds → HasCause c.system c.cells flags question limit fault → IsQuestion c flags limit fault place

@@ -23,6 +23,7 @@ use Rattle.repair.specs.Needs.{IsNeed}
 use Rattle.repair.specs.Repairs.{IsInOrder, EachRepair, cell_and_side}
 use Rattle.repair.specs.Stops.{StopsFor}
 use Rattle.repair.specs.Verdicts.{IsVerdict}
+use Rattle.repair.proofs.WantOfMemory.{by_fault}
 use Rattle.repair.specs.WholeVerdicts.{IsWholeWorld, IsWholeRefuted, IsWholeVerdict, IsWholeStop}
 
 -- where the relations have signs multipliers of an answer are whole
@@ -66,18 +67,13 @@ cause_whole system cells flags signs asked limit Memory are is = tt
 
 -- where the relations have signs a stop has no walk, and its repairs are in whole units
 pub stops_whole : (c : Case) (prices : List ℕ) (planned signs : List Bool) (limit : ℕ) (fault : AskFault) (repairs : List Refuted) (shown : List ℕ) → AreSigns c.system.relations signs → StopsFor c prices planned limit fault repairs shown → HasNoWalk fault × All IsWholeRefuted repairs
-stops_whole c prices planned signs limit (Work walk) repairs shown are is = (
-  cause_whole c.system c.cells _ signs is.question.asked limit (Work walk) are is.question.cause,
-  repairs_whole c prices planned signs repairs are is.are_repairs.ordered,
-)
-stops_whole c prices planned signs limit (Wide walk place) repairs shown are is = (
-  cause_whole c.system c.cells _ signs is.question.asked limit (Wide walk place) are is.question.cause,
-  repairs_whole c prices planned signs repairs are is.are_repairs.ordered,
-)
-stops_whole c prices planned signs limit (Size question hidden) repairs shown are is =
-    (tt, repairs_whole c prices planned signs repairs are is.are_repairs.ordered)
-stops_whole c prices planned signs limit Memory repairs shown are is =
-    (tt, subst (λ list. All IsWholeRefuted list) (sym is.0) (All-nil IsWholeRefuted))
+stops_whole c prices planned signs limit fault repairs shown are is =
+    by_fault (λ f. HasNoWalk f × All IsWholeRefuted repairs) fault
+    (λ none. (tt, subst (λ list. All IsWholeRefuted list) (sym none.0) (All-nil IsWholeRefuted)))
+    (λ stop. (
+      cause_whole c.system c.cells _ signs stop.question.asked limit fault are stop.question.cause,
+      repairs_whole c prices planned signs repairs are stop.are_repairs.ordered,
+    )) is
 
 pub where_whole : (c : Case) (prices : List ℕ) (planned : List Bool) (result : Result Verdict Stopped) → IfOk result (λ verdict. IsVerdict c prices planned verdict) → (signs : List Bool) → AreSigns c.system.relations signs → IfOk result IsWholeVerdict
 where_whole c prices planned (Ok verdict) ok signs are = verdict_whole c prices planned signs verdict are ok

@@ -1,9 +1,6 @@
 -- Attempts to show hidden cells, one after another, and what they keep (own).
-use Rattle.std.specs.Prelude.{◌≡◌, ℕ, ◌+◌, ◌&&◌, Bool, false, List, [], length, slice_get, Option}
-use Rattle.std.specs.Option.{option_map_or}
-use Rattle.sdc_base.specs.declared.cell.Cell.{Cell}
-use Rattle.sdc_base.specs.HiddenSets.{is_hidden, IsPermitted}
-use Rattle.sdc_base.specs.Kinds.{is_free}
+use Rattle.std.specs.Prelude.{◌≡◌, ℕ, ◌+◌, Bool, List, [], length, Option}
+use Rattle.sdc_base.specs.HiddenSets.{IsPermitted}
 use Rattle.worlds.specs.ProtectFaults.{asked_of}
 use Rattle.worlds.specs.declared.refuted.Refuted.{Refuted}
 use Rattle.worlds.specs.declared.world.World.{World}
@@ -58,11 +55,6 @@ pub record IsReadyToTry (task : Task) (progress : Progress World Refuted) (tried
   pub set : IsTriedSet (case_of task) progress.hidden.flags progress.tables
   pub reusable : AreReusableTables (case_of task) tried.reusable.items
   pub last : AreLast (case_of task) tried.last.items
-
--- whether the cell with this number is free and hidden
-abbrev pub is_open_at : List Cell → List Bool → ℕ → Bool
-is_open_at cells flags number =
-    option_map_or (λ cell. is_free cell.kind) (slice_get cells number) false && is_hidden flags number
 
 -- from whatever set the cells below a number had been tried, those up to it have been
 abbrev pub IsCellTrial : Task → ℕ → Progress World Refuted → Findings → Progress World Refuted → Findings → Type 0

@@ -1,9 +1,9 @@
 -- Hidden cells that aren't primary, tried as shown, and how far this has come (own).
-use Rattle.std.specs.Prelude.{◌≡◌, ◌≢◌, ℕ, ◌<◌, ◌&&◌, ◌||◌, not, Bool, true, false, List, [], ◌∷◌, ◌++◌, length, nat_lt, map, take, drop, slice_get, slice_set, All, Option, None, Some, ◌*ℤ◌, int_le, if◌then◌else◌}
+use Rattle.std.specs.Prelude.{◌≡◌, ℕ, ◌&&◌, ◌||◌, not, Bool, false, List, [], ◌∷◌, ◌++◌, length, nat_lt, slice_get, slice_set, All, Option, None, Some, ◌*ℤ◌, int_le, if◌then◌else◌}
 use Rattle.std.specs.List.{list_all, list_any}
 use Rattle.std.specs.Option.{option_map_or}
 use Rattle.sdc_base.specs.declared.cell.Cell.{Cell}
-use Rattle.sdc_base.specs.declared.cell.Kind.TheVariants.{Primary, Free}
+use Rattle.sdc_base.specs.declared.cell.Kind.TheVariants.{Primary}
 use Rattle.sdc_base.specs.declared.side.Side.{Side}
 use Rattle.sdc_base.specs.HiddenSets.{is_hidden}
 use Rattle.sdc_base.specs.Worlds.{level, amount_toward}
@@ -12,7 +12,6 @@ use Rattle.worlds.specs.declared.world.World.{World}
 use Rattle.worlds.specs.NumberLists.{terms_of, number_given}
 use Rattle.worlds.specs.RefutationFaults.{IsGivenRefutation}
 use Rattle.interval_audit.specs.declared.answer.AskFault.{AskFault}
-use Rattle.interval_audit.specs.declared.answer.AskFault.TheVariants.{Work, Wide, Size, Memory}
 use Rattle.repair.specs.LevelQuestions.{AreGiven, IsGiven}
 use Rattle.repair.specs.OnTheWay.{IsOfTrial, IsOnWay, AreAnswers}
 use Rattle.worlds.specs.ProtectFaults.{asked_of}
@@ -20,11 +19,12 @@ use Rattle.repair.specs.declared.progress.Progress.{Progress}
 use Rattle.repair.specs.declared.task.Task.{Task}
 use Rattle.repair.specs.declared.trying.Findings.{Findings}
 use Rattle.repair.specs.declared.trial.ReusableTable.{ReusableTable}
-use Rattle.repair.specs.HidingOrder.{Case, IsOfKind, hide_subjects, show_all, StandsAt, ProtectsBefore, IsFirstUnprotected, ProtectsAll}
+use Rattle.repair.specs.HidingOrder.{Case, IsOfKind, is_free_at, hide_subjects, StandsAt, ProtectsBefore, IsFirstUnprotected, ProtectsAll}
 use Rattle.repair.specs.Repairs.{cell_and_side}
-use Rattle.repair.specs.Needs.{others_hidden, set_when_tried}
 use Rattle.repair.specs.KeptWorlds.{IsServing}
-use Rattle.repair.specs.Stops.{Ascend, AreShown, IsQuestion}
+use Rattle.repair.specs.Stops.{IsQuestion}
+use Rattle.repair.specs.TriedCells.{StopsTrying, AreTried}
+use Rattle.repair.specs.WantOfMemory.{UnlessMemory}
 use Rattle.repair.specs.Tasks.{case_of}
 
 -- whether a world moves only hidden cells
@@ -123,25 +123,11 @@ ProtectsBeforeOr c flags cell place (Some need) = (need.subject ≡ cell) × IsR
 abbrev pub HasFault : Case → List Bool → ℕ → AskFault → Type 0
 HasFault c flags limit fault = (place : ℕ) × IsQuestion c flags limit fault place
 
--- a need of a cell below a number: its multipliers refute for the cells that were hidden when it was tried
-pub record IsNeedBelow (c : Case) (flags larger : List Bool) (n : ℕ) (need : Refuted) : Type 0 where
-  pub below : need.subject < n
-  pub refuted : IsRefuted c (set_when_tried flags larger need.subject) need
-
--- The cells below a number have been tried, from the set of all open cells on: the hidden set is what is left without
--- those that were shown, it protects every primary cell, and each hidden cell that isn't primary has its need.
-pub record IsTried (c : Case) (larger : List Bool) (n : ℕ) (flags : List Bool) (needs : List Refuted)
-    (shown : List ℕ) : Type 0 where
-  pub hidden_is : flags ≡ show_all larger shown
-  pub within : (cell : ℕ) → is_hidden flags cell ≡ true → is_hidden larger cell ≡ true
-  pub rest : drop n flags ≡ drop n larger
-  pub protecting : ProtectsAll c flags
-  pub each_needed : map (λ need. need.subject) needs ≡ others_hidden flags 0 (take n c.cells)
-  pub are_needs : All (IsNeedBelow c flags larger n) needs
-  pub ascending : Ascend shown
-  pub below : All (λ cell. cell < n) shown
-  pub are_free : All (λ cell. IsOfKind c.cells cell Free) shown
-  pub are_open : All (λ cell. is_hidden larger cell ≡ true) shown
+-- The cells below a number have been tried, from the set of all open cells on: the set that is left protects every
+-- primary cell, and each free hidden cell has its need, whose multipliers refute for the set when it was tried.
+abbrev pub IsTried : Case → List Bool → ℕ → List Bool → List Refuted → List ℕ → Type 0
+IsTried c larger n flags needs shown =
+    AreTried (λ need. need.subject) (IsRefuted c) (ProtectsAll c) (is_free_at c.cells) larger n flags needs shown
 
 -- so far has a task come with trying cells, by its progress and its findings; spare worlds are answers of trials
 pub record HasTried (task : Task) (larger : List Bool) (n : ℕ) (progress : Progress World Refuted) (tried : Findings)
@@ -150,14 +136,10 @@ pub record HasTried (task : Task) (larger : List Bool) (n : ℕ) (progress : Pro
   pub answers : AreTrialAnswers (case_of task) larger n progress.hidden.flags tried.reusable.items
 
 -- a question has a fault while a cell, the last of those shown, is being tried, or once all have been tried
-pub record IsTryStop (c : Case) (larger : List Bool) (limit : ℕ) (fault : AskFault) (shown : List ℕ) : Type 0 where
-  pub are_shown : AreShown c larger shown
-  pub shows_a_cell : shown ≢ []
-  pub has_fault : HasFault c (show_all larger shown) limit fault
+abbrev pub IsTryStop : Case → List Bool → ℕ → AskFault → List ℕ → Type 0
+IsTryStop c larger limit fault shown =
+    StopsTrying (ProtectsAll c) (is_free_at c.cells) (λ set. HasFault c set limit fault) larger shown
 
 -- the same, but nothing under want of memory
 abbrev pub TriesStopFor : Case → List Bool → ℕ → AskFault → List ℕ → Type 0
-TriesStopFor c larger limit Memory shown = Unit {0}
-TriesStopFor c larger limit (Work walk) shown = IsTryStop c larger limit (Work walk) shown
-TriesStopFor c larger limit (Wide walk place) shown = IsTryStop c larger limit (Wide walk place) shown
-TriesStopFor c larger limit (Size question hidden) shown = IsTryStop c larger limit (Size question hidden) shown
+TriesStopFor c larger limit fault shown = UnlessMemory fault (IsTryStop c larger limit fault shown)

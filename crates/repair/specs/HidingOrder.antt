@@ -40,6 +40,10 @@ pub record IsOfKind (cells : List Cell) (number : ℕ) (kind : Kind) : Type 0 wh
   pub found : slice_get cells number ≡ Some cell
   pub is_kind : cell.kind ≡ kind
 
+-- the cell with this number is free
+abbrev pub is_free_at : List Cell → ℕ → Bool
+is_free_at cells number = option_map_or (λ cell. is_free cell.kind) (slice_get cells number) false
+
 -- ---- hidden sets
 
 -- the set with which repairing begins: the primary cells and the corners

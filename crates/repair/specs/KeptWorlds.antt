@@ -17,7 +17,7 @@ use Rattle.worlds.specs.RefutationFaults.{IsGivenRefutation}
 use Rattle.worlds.specs.ProtectFaults.{asked_of, is_reaching}
 use Rattle.repair.specs.LevelQuestions.{AreGiven}
 use Rattle.repair.specs.HidingOrder.{Case, IsOfKind, hide_subjects, StandsAt, ProtectsBefore}
-use Rattle.repair.specs.Repairs.{AreRepairs, LastIsNotBehind}
+use Rattle.repair.specs.Repairs.{AreRepairs, LastIsNotBehind, IsOfQuestionAt}
 
 -- no level of a cell is above 2^110
 pub record HasModestLevels (cell : Cell) : Type 0 where
@@ -76,7 +76,7 @@ pub record IsRepaired (c : Case) (prices : List ℕ) (planned flags : List Bool)
     (place : ℕ) : Type 0 where
   pub hidden_is : flags ≡ hide_subjects planned repairs
   pub are_repairs : AreRepairs c prices planned repairs
-  pub onward : LastIsNotBehind c.cells repairs place
+  pub onward : LastIsNotBehind (IsOfQuestionAt c.cells) repairs place
 
 -- the question at a place, with multipliers that refute its level for the hidden set, as it is answered
 pub record IsStopped (c : Case) (flags : List Bool) (place : ℕ) (question : ℕ × Side) (m : Multipliers) : Type 0 where

@@ -13,12 +13,12 @@ use Rattle.interval_audit.specs.declared.question.Question.{Question}
 use Rattle.sdc_base.specs.declared.fraction.Fraction.{Fraction}
 use Rattle.interval_audit.specs.declared.answer.Answer.TheVariants.{Reaches, Stops}
 use Rattle.interval_audit.specs.declared.answer.AskFault.{AskFault}
-use Rattle.interval_audit.specs.declared.answer.AskFault.TheVariants.{Work, Wide, Size, Memory}
 use Rattle.interval_audit.specs.Answers.{IsTrueAnswer, IsAnswerOf}
 use Rattle.interval_audit.specs.Causes.{IsCauseOf}
 use Rattle.interval_audit.specs.FewerHidden.{StopsWith}
 use Rattle.kept_questions.specs.declared.kept_answer.KeptAnswer.{KeptAnswer}
 use Rattle.kept_questions.specs.declared.kept_answer.KeptAnswer.TheVariants as kept_answer
+use Rattle.repair.specs.WantOfMemory.{UnlessMemory}
 
 -- the question whether a cell can be moved to a side as far as its level
 pub record IsLevelQuestion (cells : List Cell) (asked : ℕ × Side) (question : Question) : Type 0 where
@@ -72,8 +72,5 @@ pub record IsCausing (system : System) (cells : List Cell) (flags : List Bool) (
 
 -- the same; want of memory has no cause
 abbrev pub HasCause : System → List Cell → List Bool → ℕ × Side → ℕ → AskFault → Type 0
-HasCause system cells flags asked limit Memory = Unit {0}
-HasCause system cells flags asked limit (Work walk) = IsCausing system cells flags asked limit (Work walk)
-HasCause system cells flags asked limit (Wide walk place) = IsCausing system cells flags asked limit (Wide walk place)
-HasCause system cells flags asked limit (Size question hidden) = IsCausing system cells flags asked limit
-    (Size question hidden)
+HasCause system cells flags asked limit fault =
+    UnlessMemory fault (IsCausing system cells flags asked limit fault)

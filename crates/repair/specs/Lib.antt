@@ -1,8 +1,10 @@
+pub mod WantOfMemory
 pub mod HidingOrder
 pub mod Choices
 pub mod LevelQuestions
 pub mod Repairs
 pub mod Needs
+pub mod TriedCells
 pub mod OnTheWay
 pub mod KeptWorlds
 pub mod Stops

@@ -32,18 +32,26 @@ pub record IsInOrder (c : Case) (prices : List ℕ) (flags : List Bool) (repair 
   pub cheapest : IsCheapest c.cells prices flags (coefficients_for c.system (cell_and_side repair) repair.multipliers)
       repair.subject
 
--- each repair is so for the hidden set that the earlier ones made of this one
+-- each of these, for which a cell is hidden, is so for the hidden set that the cells of the earlier ones made of this
+-- one
+abbrev pub EachInTurn : {R : Type 0} → (R → ℕ) → (List Bool → R → Type 0) → List Bool → List R → Type 0
+EachInTurn subject Is flags [] = Unit {0}
+EachInTurn subject Is flags (one ∷ more) = Is flags one × EachInTurn subject Is (hide flags (subject one)) more
+
+-- the same of repairs
 abbrev pub EachRepair : (List Bool → Refuted → Type 0) → List Bool → List Refuted → Type 0
-EachRepair Is flags [] = Unit {0}
-EachRepair Is flags (repair ∷ repairs) = Is flags repair × EachRepair Is (hide flags repair.subject) repairs
+EachRepair Is flags repairs = EachInTurn (λ repair. repair.subject) Is flags repairs
 
 -- a list of repairs is justified, and in order, from a hidden set on
 pub record AreRepairs (c : Case) (prices : List ℕ) (flags : List Bool) (repairs : List Refuted) : Type 0 where
   pub justified : EachRepair (IsJustified c) flags repairs
   pub ordered : EachRepair (IsInOrder c prices) flags repairs
 
--- the last repair, where there is one, is of a question that doesn't stand behind this place
-abbrev pub LastIsNotBehind : List Cell → List Refuted → ℕ → Type 0
-LastIsNotBehind cells repairs place =
-    (earlier : List Refuted) (last : Refuted) → repairs ≡ earlier ++ last ∷ []
-    → (own : ℕ) × StandsAt cells (cell_and_side last) own × (own ≤ place)
+-- the last of these, where there is one, is for what doesn't stand behind this place
+abbrev pub LastIsNotBehind : {R : Type 0} → (R → ℕ → Type 0) → List R → ℕ → Type 0
+LastIsNotBehind {R = R} IsFor reasons place =
+    (earlier : List R) (last : R) → reasons ≡ earlier ++ last ∷ [] → (own : ℕ) × IsFor last own × (own ≤ place)
+
+-- the question of a repair stands at this place
+abbrev pub IsOfQuestionAt : List Cell → Refuted → ℕ → Type 0
+IsOfQuestionAt cells repair place = StandsAt cells (cell_and_side repair) place

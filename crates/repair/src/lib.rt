@@ -35,5 +35,6 @@ pub use serving::level_question;
 pub use step::Step;
 pub use stopped::Stopped;
 pub use trials::Trials;
+pub use trying::is_free_at;
 pub use unprotected_cell::UnprotectedCell;
 pub use verdict::Verdict;

@@ -1,5 +1,6 @@
 ghost use Rattle.std.specs.Prelude.{◌≡◌};
-ghost use Rattle.repair.specs.Stops.{list_with_fault, no_memory};
+ghost use Rattle.repair.specs.Stops.{no_memory};
+ghost use Rattle.repair.specs.WantOfMemory.{list_with_fault};
 
 use interval_audit::AskFault;
 use sdc_base::Items;

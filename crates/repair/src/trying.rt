@@ -2,9 +2,11 @@ ghost use Rattle.std.specs.Prelude.{◌≡◌, true, IfErr, OnOk};
 ghost use Rattle.sdc_base.specs.HiddenSets as hidden_set;
 ghost use Rattle.sdc_base.specs.declared.cell.Kind.TheVariants.{Free as FreeKind};
 ghost use Rattle.repair.specs.HidingOrder.{IsOfKind};
+ghost use Rattle.repair.specs.HidingOrder as order;
+ghost use Rattle.repair.specs.TriedCells as tried_cells;
 ghost use Rattle.repair.specs.Tasks.{case_of};
 ghost use Rattle.repair.specs.CellTrials.{TriesStopFor};
-ghost use Rattle.repair.specs.Attempts.{IsServedSet, IsUntried, IsReadyToTry, is_open_at, IsCellTrial, IsCellTrialStop, HasTriedAll, KeepsAnswers};
+ghost use Rattle.repair.specs.Attempts.{IsServedSet, IsUntried, IsReadyToTry, IsCellTrial, IsCellTrialStop, HasTriedAll, KeepsAnswers};
 
 use crate::attempt::Attempt;
 use crate::progress::Progress;
@@ -65,13 +67,20 @@ pub(crate) fn try_all(
     )
 }
 
-// Whether a cell is free and hidden.
+// Whether a cell is hidden and free.
 fn is_open(cells: &[Cell], flags: &[bool], cell: u32) -> bool
-    ensures { result ≡ is_open_at cells.now flags.now cell }
+    ensures { result ≡ tried_cells.is_open (order.is_free_at cells.now) flags.now cell }
 {
-    let place = cell as usize;
-    match cells.get(place) {
-        Some(one) => one.kind.is_free() && is_hidden(flags, place),
+    is_hidden(flags, cell as usize) && is_free_at(cells, cell)
+}
+
+/// Whether the cell with this number is free, by the cells in the order of their numbers from 0. Nothing is refused; it
+/// takes one look and no memory. Free cells are argus's own.
+pub fn is_free_at(cells: &[Cell], cell: u32) -> bool
+    ensures { result ≡ order.is_free_at cells.now cell }
+{
+    match cells.get(cell as usize) {
+        Some(one) => one.kind.is_free(),
         None => false,
     }
 }

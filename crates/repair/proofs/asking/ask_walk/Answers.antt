@@ -4,7 +4,7 @@ use Rattle.sdc_base.specs.HiddenSets.{is_hidden}
 use Rattle.interval_audit.specs.Answers.{IsTrueAnswer, IsAnswerOf}
 use Rattle.repair.specs.LevelQuestions.{IsCausing}
 use Rattle.repair.proofs.Order.{primary_here}
-use Rattle.repair.proofs.Repairing.{cause_of}
+use Rattle.repair.proofs.WantOfMemory.{unless_memory}
 use Rattle.repair.proofs.asking.ask_walk.Goals as goal
 
 pub level_question-aim-requires-clause-primary : goal.level_question-aim-requires-clause-primary
@@ -24,7 +24,7 @@ returns-in_err-answer-clause-err c =
     let own = c.args.question.now in
     let causing : IsCausing own.system.now own.cells.now own.hidden.now.flags own.asked own.limit c.in_err-answer.field-0.0 = record { question = c.level_question-aim.result; is_asked = c.level_question-aim.ensures; cause = c.in_err-answer.ensures.cause } in
     let p = err_from_is_err_and c.from_residual.result c.from_residual.ensures.1 in
-    rw (p.1, p.2) (cause_of own.system.now own.cells.now own.hidden.now.flags own.asked own.limit c.in_err-answer.field-0.0 causing)
+    rw (p.1, p.2) (unless_memory c.in_err-answer.field-0.0 causing)
 
 pub returns-in-Reaches-clause-ok : goal.returns-in-Reaches-clause-ok
 returns-in-Reaches-clause-ok c =

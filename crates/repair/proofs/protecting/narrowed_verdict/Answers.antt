@@ -5,7 +5,8 @@ use Rattle.worlds.specs.declared.refuted.Refuted.{Refuted}
 use Rattle.repair.specs.HidingOrder.{Case, protected_case, hide_subjects, IsSubset}
 use Rattle.repair.specs.OnTheWay.{IsOnWay, AreAnswers}
 use Rattle.repair.specs.Repairs.{AreRepairs}
-use Rattle.repair.specs.Stops.{list_with_fault, StopsFor}
+use Rattle.repair.specs.Stops.{StopsFor}
+use Rattle.repair.specs.WantOfMemory.{list_with_fault}
 use Rattle.repair.specs.Verdicts.{AreNeeds}
 use Rattle.repair.proofs.Concluding.{stops_trying}
 use Rattle.repair.proofs.Tries.{all_needed}
@@ -24,7 +25,7 @@ returns-clause-verdict c =
       are_repairs = subst (λ (r : List Refuted). AreRepairs task c.args.task.now.prices.now planned r) (sym same) is.is_repaired.are_repairs;
       within = subst (λ (f : List Bool). IsSubset flags f) larger tried.within;
       are_needs = subst (λ (f : List Bool). AreNeeds task flags f c.try_all-outcome.new.tried.trials.needs) larger
-          (all_needed task c.args.repaired.hidden.flags flags c.try_all-outcome.new.tried.trials.needs c.try_all-outcome.new.tried.trials.shown tried);
+          (all_needed task c.args.repaired.hidden.flags flags c.try_all-outcome.new.tried.trials.needs c.try_all-outcome.new.tried.trials.shown c.in_default.ensures.served.permitted tried);
       answers = subst (λ (r : List Refuted). AreAnswers task (IsOnWay task planned r flags) (asked_of 0 c.args.task.now.cells.now) c.try_all-outcome.new.progress.tables) (sym same) (c.in_default.ensures.answers planned is);
     })
 

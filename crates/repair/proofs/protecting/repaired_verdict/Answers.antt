@@ -2,7 +2,8 @@ use Rattle.std.proofs.Common.{◌≡◌, ◌∙◌, [], List, Bool, ℕ, length,
 use Rattle.worlds.specs.declared.refuted.Refuted.{Refuted}
 use Rattle.interval_audit.specs.declared.answer.AskFault.{AskFault}
 use Rattle.repair.specs.HidingOrder.{Case, protected_case}
-use Rattle.repair.specs.Stops.{list_with_fault, StopsFor}
+use Rattle.repair.specs.Stops.{StopsFor}
+use Rattle.repair.specs.WantOfMemory.{list_with_fault}
 use Rattle.repair.specs.QuestionSteps.{IsUnprotected, AreServedOrUnprotected}
 use Rattle.repair.proofs.Concluding.{stops_for}
 use Rattle.repair.proofs.Repairing.{cannot_by}

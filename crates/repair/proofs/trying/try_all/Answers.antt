@@ -5,15 +5,16 @@ use Rattle.worlds.specs.declared.refuted.Refuted.{Refuted}
 use Rattle.worlds.specs.ProtectFaults.{asked_of}
 use Rattle.worlds.proofs.TrueTests.{err_more, ok_more}
 use Rattle.sdc_base.specs.declared.side.Side.{Side}
-use Rattle.repair.specs.HidingOrder.{Case, protected_case, hide_subjects}
-use Rattle.repair.specs.CellTrials.{AreReusableTables, IsReusableTable, IsTrialAnswer, AreTrialAnswers, AnswerTrials, AnswerOnWay, IsTried}
+use Rattle.repair.specs.HidingOrder.{Case, protected_case, is_free_at, hide_subjects, ProtectsAll}
+use Rattle.repair.specs.CellTrials.{AreReusableTables, IsReusableTable, IsTrialAnswer, AreTrialAnswers, AnswerTrials, AnswerOnWay, IsRefuted, IsTried, HasFault}
 use Rattle.repair.specs.OnTheWay.{IsOfFirst, AreAnswers}
 use Rattle.repair.proofs.OnTheWay.{answers_first, trials_later}
-use Rattle.repair.specs.Attempts.{is_open_at}
-use Rattle.repair.proofs.Attempts.{one_closed, open_says}
+use Rattle.repair.specs.TriedCells.{is_open}
 use Rattle.repair.proofs.AtHand.{kept_by}
-use Rattle.repair.proofs.Growing.{served_protect}
-use Rattle.repair.proofs.Tries.{none_tried, some_shown, end_stop, tries_stop}
+use Rattle.repair.proofs.Growing.{served_protect, all_protected_more}
+use Rattle.repair.proofs.TriedCells.{none_tried, one_passed, some_shown, end_stop}
+use Rattle.repair.proofs.Tries.{not_protecting, open_says, open_inside}
+use Rattle.repair.proofs.WantOfMemory.{unless_memory}
 use Rattle.repair.proofs.trying.try_all.Goals as goal
 
 pub cells-init : goal.cells-init
@@ -36,7 +37,7 @@ cells-init c =
       tried = record {
         are_tried = subst (λ (ns : List Refuted). IsTried task flags 0 flags ns c.args.tried.now.trials.shown) (sym c.requires.untried.no_needs)
             (subst (λ (l : List ℕ). IsTried task flags 0 flags [] l) (sym c.requires.untried.none_shown)
-            (none_tried task flags (served_protect task flags all c.args.progress.now.tables c.requires.served.served)));
+            (none_tried (λ (need : Refuted). need.subject) (IsRefuted task) (ProtectsAll task) (is_free_at task.cells) flags (served_protect task flags all c.args.progress.now.tables c.requires.served.served)));
         answers = subst (AreTrialAnswers task flags 0 flags) (sym c.requires.untried.no_spares) (All-nil (IsTrialAnswer task flags 0 flags));
       };
     }
@@ -53,17 +54,17 @@ cells-preserved-then-not-is_open c =
       worlds = c.cells.invariant.worlds;
       ready = c.cells.invariant.ready;
       tried = record {
-        are_tried = one_closed task larger number flags c.cells.tried.trials.needs c.cells.tried.trials.shown c.cells-test.true c.cells.invariant.ready.set.permitted
-            (ap (λ (f : List Bool). is_open_at c.args.task.now.cells.now f c.cells.number) (sym c.as_slice.ensures) ∙ sym c.is_open.ensures ∙ c.if-not-is_open.true) before.are_tried;
+        are_tried = one_passed (λ (need : Refuted). need.subject) (IsRefuted task) (ProtectsAll task) (is_free_at task.cells) larger number flags c.cells.tried.trials.needs c.cells.tried.trials.shown
+            (ap (λ (f : List Bool). is_open (is_free_at c.args.task.now.cells.now) f c.cells.number) (sym c.as_slice.ensures) ∙ sym c.is_open.ensures ∙ c.if-not-is_open.true) before.are_tried;
         answers = trials_later task larger number (number + 1) flags c.cells.tried.reusable.items (omega arith) before.answers;
       };
     }
 
 pub try_one-requires-clause-is_free : goal.try_one-requires-clause-is_free
-try_one-requires-clause-is_free c = (open_says c.args.task.now.cells.now c.cells.progress.hidden.flags c.cells.number (ap (λ (f : List Bool). is_open_at c.args.task.now.cells.now f c.cells.number) (sym c.as_slice.ensures) ∙ sym c.is_open.ensures ∙ c.if-not-is_open.false)).0
+try_one-requires-clause-is_free c = (open_says c.args.task.now.cells.now c.cells.progress.hidden.flags c.cells.number (ap (λ (f : List Bool). is_open (is_free_at c.args.task.now.cells.now) f c.cells.number) (sym c.as_slice.ensures) ∙ sym c.is_open.ensures ∙ c.if-not-is_open.false)).0
 
 pub try_one-requires-clause-hidden : goal.try_one-requires-clause-hidden
-try_one-requires-clause-hidden c = (open_says c.args.task.now.cells.now c.cells.progress.hidden.flags c.cells.number (ap (λ (f : List Bool). is_open_at c.args.task.now.cells.now f c.cells.number) (sym c.as_slice.ensures) ∙ sym c.is_open.ensures ∙ c.if-not-is_open.false)).1
+try_one-requires-clause-hidden c = (open_says c.args.task.now.cells.now c.cells.progress.hidden.flags c.cells.number (ap (λ (f : List Bool). is_open (is_free_at c.args.task.now.cells.now) f c.cells.number) (sym c.as_slice.ensures) ∙ sym c.is_open.ensures ∙ c.if-not-is_open.false)).1
 
 pub returns-clause-err : goal.returns-clause-err
 returns-clause-err c =
@@ -74,8 +75,9 @@ returns-clause-err c =
     let none : (length shown == 0) ≡ false = ap (λ (l : List ℕ). length l == 0) (sym c.as_slice-2.ensures) ∙ sym c.is_empty.ensures ∙ c.if-is_empty.false in
     let last : c.cells.number ≡ length c.args.task.now.cells.now = omega (arith, c.cells-test.false, c.cells.auto.number-end) in
     let all : IsTried task larger (length c.args.task.now.cells.now) flags c.cells.tried.trials.needs shown = subst (λ n. IsTried task larger n flags c.cells.tried.trials.needs shown) last c.cells.invariant.tried.are_tried in
-    err_more c.renew_all.result (λ fault has. tries_stop task larger c.args.task.now.limit fault shown
-    (end_stop task larger flags c.cells.tried.trials.needs shown c.args.task.now.limit fault c.args.task.now.fits.one_each (some_shown shown none) has all)) c.renew_all.ensures.err
+    err_more c.renew_all.result (λ fault has. unless_memory fault
+    (end_stop (λ (need : Refuted). need.subject) (IsRefuted task) (ProtectsAll task) (is_free_at task.cells) (λ set. HasFault task set c.args.task.now.limit fault) larger flags c.cells.tried.trials.needs shown
+    (λ f need. not_protecting task f need c.args.task.now.fits.one_each) (λ fewer more within. all_protected_more task fewer more (asked_of 0 task.cells) within) (some_shown shown none) has (length task.cells) (open_inside task.cells flags) all)) c.renew_all.ensures.err
 
 pub returns-then-is_empty-clause-answers : goal.returns-then-is_empty-clause-answers
 returns-then-is_empty-clause-answers c =

@@ -4,14 +4,16 @@ use Rattle.std.proofs.lemmas.Option.{slice_get_within}
 use Rattle.worlds.specs.declared.refuted.Refuted.{Refuted}
 use Rattle.worlds.specs.declared.world.World.{World}
 use Rattle.worlds.specs.ProtectFaults.{asked_of}
-use Rattle.repair.specs.HidingOrder.{Case, protected_case, ProtectsAll}
+use Rattle.repair.specs.HidingOrder.{Case, protected_case, is_free_at, ProtectsAll}
 use Rattle.sdc_base.specs.HiddenSets.{hide, show}
-use Rattle.repair.specs.CellTrials.{AreKept, AreReusableTables, AreLast, AreTrialAnswers, ProtectsBeforeOr, IsRefuted, IsTried, IsTryStop, HasFault}
+use Rattle.repair.specs.CellTrials.{AreKept, AreReusableTables, AreTrialAnswers, ProtectsBeforeOr, IsRefuted, IsTried, IsTryStop, HasFault}
 use Rattle.sdc_base.specs.declared.side.Side.{Side}
 use Rattle.repair.proofs.AtHand.{protects_all, spares_left}
 use Rattle.repair.specs.OnTheWay.{IsOfTrial}
 use Rattle.repair.proofs.OnTheWay.{trial_now, trials_set, trials_tried, trials_left}
-use Rattle.repair.proofs.Tries.{hidden_again, one_shown, one_needed, try_stop, tries_stop}
+use Rattle.repair.proofs.Tries.{hidden_again, not_protecting, open_by}
+use Rattle.repair.proofs.TriedCells.{one_shown, one_needed, try_stop}
+use Rattle.repair.proofs.WantOfMemory.{unless_memory}
 use Rattle.repair.specs.Attempts.{IsPermittedSet, IsTriedSet}
 use Rattle.repair.proofs.Attempts.{tried_less}
 use Rattle.repair.proofs.trying.try_one.Goals as goal
@@ -43,9 +45,9 @@ returns-in_err-found-clause-err c =
     let has : HasFault task (show flags c.args.cell) c.args.task.now.limit c.in_err-found.field-0.0 = subst (λ (f : List Bool). HasFault task f c.args.task.now.limit c.in_err-found.field-0.0) c.show.ensures c.in_err-found.ensures.err in
     let p = err_from_is_err_and c.from_residual.result c.from_residual.ensures.1 in
     rw (p.1, p.2) (λ larger before.
-    tries_stop task larger c.args.task.now.limit c.in_err-found.field-0.0 c.push.new.self
+    unless_memory c.in_err-found.field-0.0
     (subst (λ (l : List ℕ). IsTryStop task larger c.args.task.now.limit c.in_err-found.field-0.0 l) (sym c.in-Ok.ensures.ok)
-    (try_stop task larger c.args.cell flags c.args.tried.now.trials.needs c.args.tried.now.trials.shown c.args.task.now.limit c.in_err-found.field-0.0 c.args.task.now.fits.one_each inside c.requires.hidden c.requires.is_free has before.are_tried)))
+    (try_stop (λ (need : Refuted). need.subject) (IsRefuted task) (ProtectsAll task) (is_free_at task.cells) (λ set. HasFault task set c.args.task.now.limit c.in_err-found.field-0.0) larger c.args.cell flags c.args.tried.now.trials.needs c.args.tried.now.trials.shown (λ f need. not_protecting task f need c.args.task.now.fits.one_each) inside (open_by task.cells flags c.args.cell c.requires.is_free c.requires.hidden) has before.are_tried)))
 
 pub returns-in-None-clause-ready : goal.returns-in-None-clause-ready
 returns-in-None-clause-ready c =
@@ -71,7 +73,7 @@ returns-in-None-clause-ok c =
     record {
       are_tried = subst (λ (f : List Bool). IsTried task larger (c.args.cell + 1) f c.args.tried.now.trials.needs c.push.new.self) (sym c.show.ensures)
           (subst (λ (l : List ℕ). IsTried task larger (c.args.cell + 1) (show flags c.args.cell) c.args.tried.now.trials.needs l) (sym c.in-Ok.ensures.ok)
-          (one_shown task larger c.args.cell flags c.args.tried.now.trials.needs c.args.tried.now.trials.shown inside c.requires.hidden c.requires.is_free all before.are_tried));
+          (one_shown (λ (need : Refuted). need.subject) (IsRefuted task) (ProtectsAll task) (is_free_at task.cells) larger c.args.cell flags c.args.tried.now.trials.needs c.args.tried.now.trials.shown inside (open_by task.cells flags c.args.cell c.requires.is_free c.requires.hidden) all before.are_tried));
       answers = subst (AreTrialAnswers task larger (c.args.cell + 1) c.show.new.self.flags) (sym c.drop_unfit.ensures) (trials_left task larger (c.args.cell + 1) c.show.new.self.flags c.as_slice-in-None.result.now c.first_need.new.reusable.items answers);
     }
 
@@ -104,6 +106,6 @@ returns-in_ok-put_back-in-Some-clause-ok c =
       are_tried = subst (λ (f : List Bool). IsTried task larger (c.args.cell + 1) f c.put_back.new.self.needs c.put_back.new.self.shown) (sym same)
           (subst (λ (rs : List Refuted). IsTried task larger (c.args.cell + 1) flags rs c.put_back.new.self.shown) (sym c.in_ok-put_back-in-Some.ensures.needs)
           (subst (λ (l : List ℕ). IsTried task larger (c.args.cell + 1) flags (c.args.tried.now.trials.needs ++ c.in-Some.need ∷ []) l) (sym back)
-          (one_needed task larger c.args.cell flags c.args.tried.now.trials.needs c.args.tried.now.trials.shown c.in-Some.need inside c.requires.hidden c.requires.is_free told.0 refuted before.are_tried)));
+          (one_needed (λ (need : Refuted). need.subject) (IsRefuted task) (ProtectsAll task) (is_free_at task.cells) larger c.args.cell flags c.args.tried.now.trials.needs c.args.tried.now.trials.shown c.in-Some.need inside (open_by task.cells flags c.args.cell c.requires.is_free c.requires.hidden) told.0 refuted before.are_tried)));
       answers = subst (λ (f : List Bool). AreTrialAnswers task larger (c.args.cell + 1) f c.first_need.new.reusable.items) (sym c.put_back.ensures.flags) (trials_set task larger (c.args.cell + 1) c.show.new.self.flags c.args.cell true c.first_need.new.reusable.items (omega arith) answers);
     }
