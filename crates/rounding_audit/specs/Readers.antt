@@ -1,7 +1,7 @@
 -- What a reader of a rounded release knows of the cells, and the tables that agree with it: by the values that are
 -- shown and the base, by the stated bounds, and by how much a truth may be. That truths are whole is known for these
 -- bounds alone (zero-restricted controlled rounding; own).
-use Rattle.std.specs.Prelude.{◌≡◌, ◌↔◌, ◌^◌, ℕ, Bool, true, List, length, replicate, slice_get, Some, ℤ, pos, ◌+ℤ◌, ◌-ℤ◌, ◌*ℤ◌, ◌≤ℤ◌}
+use Rattle.std.specs.Prelude.{◌≡◌, ◌↔◌, ◌^◌, ℕ, Bool, true, List, length, All, replicate, slice_get, Some, ℤ, pos, ◌+ℤ◌, ◌-ℤ◌, ◌*ℤ◌, ◌≤ℤ◌}
 use Rattle.std.specs.Int.{int_max, int_min}
 use Rattle.std.specs.Option.{option_map_or}
 use Rattle.sdc_base.specs.declared.cell.Cell.{Cell}
@@ -15,6 +15,15 @@ use Rattle.sdc_base.specs.Worlds.{IsWorld, Reaches, value_over}
 -- the greatest amount that a truth may be, in units
 abbrev pub greatest_truth : ℤ
 greatest_truth = pos (10 ^ 29)
+
+-- Numbers that can be audited: there are a cell and a number for each cell of the system, no truth is above that amount,
+-- and the base is from 1 to 10^22 units.
+pub record CanBeAudited (system : System) (cells : List Cell) (values : List ℤ) (base : ℤ) : Type 0 where
+  pub each_cell : length cells ≡ system.cells
+  pub each_value : length values ≡ length cells
+  pub truths : All (λ cell. cell.truth ≤ℤ pos (10 ^ 29)) cells
+  pub from_one : pos 1 ≤ℤ base
+  pub at_most_10_22 : base ≤ℤ pos (10 ^ 22)
 
 -- the reader's lower bound of a cell: the stated one, or the least whole number less than one base below the shown value
 abbrev pub reader_low : ℤ → ℤ → Cell → ℤ

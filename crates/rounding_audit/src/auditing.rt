@@ -1,4 +1,4 @@
-ghost use Rattle.std.specs.Prelude.{◌≡◌, ◌≤◌, ◌<◌, ◌≤ℤ◌, ◌^◌, pos, length, All, Bool, IfErr, IfOk, IfSome, IsOk, List, true, ℕ};
+ghost use Rattle.std.specs.Prelude.{◌≡◌, ◌≤◌, ◌<◌, All, Bool, IfErr, IfOk, IfSome, IsOk, List, true, ℕ};
 ghost use Rattle.sdc_base.specs.Kinds.{is_primary_at};
 ghost use Rattle.sdc_base.specs.Roundings.{IsRounding};
 ghost use Rattle.sdc_base.specs.Signs.{AreSigns, HasNone};
@@ -10,6 +10,7 @@ ghost use Rattle.rounding_audit.specs.AuditFaults.{HasNoWalk, IsAuditFault, IsQu
 ghost use Rattle.rounding_audit.specs.Audits.{HasWholeEnds, IsAudit, IsAuditedCell, IsAuditedEnd, IsIntegral};
 ghost use Rattle.rounding_audit.specs.EndValues.{AreWholeEnds, IsEndValue};
 ghost use Rattle.rounding_audit.specs.ReaderFaults.{truths_of};
+ghost use Rattle.rounding_audit.specs.Readers.{CanBeAudited};
 ghost use Rattle.rounding_audit.specs.Readers as readers;
 
 use crate::audit_fault::AuditFault;
@@ -53,11 +54,7 @@ pub fn audit_of(
     base: i128,
     limit: u64,
 ) -> Result<Items<AuditedCell>, AuditFault>
-    requires each_cell { length cells.now ≡ system.now.cells }
-    requires each_value { length values.now ≡ length cells.now }
-    requires truths { All (λ cell. cell.truth ≤ℤ pos (10 ^ 29)) cells.now }
-    requires base { pos 1 ≤ℤ base }
-    requires at_most_10_22 { base ≤ℤ pos (10 ^ 22) }
+    requires can { CanBeAudited system.now cells.now values.now base }
     requires limit { 1 ≤ limit }
     ensures audit { IfOk result (IsAudit system.now cells.now values.now base) }
     ensures rounded { IsOk result → IsRounding system.now (truths_of cells.now) base values.now }

@@ -1,7 +1,7 @@
 ghost use Rattle.std.specs.Prelude.{◌≡◌, ◌≤ℤ◌, ◌^◌, pos, length, All, IfErr, IfOk, IsOk};
 ghost use Rattle.sdc_base.specs.Roundings.{IsAdjacent, IsRounding};
 ghost use Rattle.rounding_audit.specs.ReaderFaults.{AreRoundedBelow, IsReaderFault, truths_of};
-ghost use Rattle.rounding_audit.specs.Readers.{AreReaderCells, IsReaderCell};
+ghost use Rattle.rounding_audit.specs.Readers.{AreReaderCells, CanBeAudited, IsReaderCell};
 ghost use Rattle.rounding_audit.specs.Readers as readers;
 
 use crate::adjacency::first_unrounded;
@@ -33,11 +33,7 @@ pub fn reader_cells(
     values: &[i128],
     base: i128,
 ) -> Result<Items<Cell>, ReaderFault>
-    requires each_cell { length cells.now ≡ system.now.cells }
-    requires each_value { length values.now ≡ length cells.now }
-    requires truths { All (λ cell. cell.truth ≤ℤ pos (10 ^ 29)) cells.now }
-    requires base { pos 1 ≤ℤ base }
-    requires at_most_10_22 { base ≤ℤ pos (10 ^ 22) }
+    requires { CanBeAudited system.now cells.now values.now base }
     ensures known { IfOk result (AreReaderCells cells.now values.now base) }
     ensures rounded { IsOk result → IsRounding system.now (truths_of cells.now) base values.now }
     ensures fault { IfErr result (IsReaderFault system.now cells.now values.now base) }

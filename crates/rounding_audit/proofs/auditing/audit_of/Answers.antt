@@ -23,14 +23,14 @@ invariant_of-reader c =
     let known = c.in_ok-known.ensures.known in
     let are = subst (λ (cells : List Cell). AreReaderCells c.args.cells.now c.args.values.now (to_z w128 (of_z w128 c.args.base)) cells) (sym c.as_slice.ensures) known in
     record {
-      each_cell = c.requires.each_cell ∙ ap (λ (own : System). own.cells) (sym c.in_ok-signed.ensures);
+      each_cell = c.requires.can.each_cell ∙ ap (λ (own : System). own.cells) (sym c.in_ok-signed.ensures);
       known_are = are;
       flags = c.in_ok-hidden.ensures ∙ ap (λ (own : System). all_hidden own.cells) (sym c.in_ok-signed.ensures);
       ground = subst (λ (own : System). IsPattern own c.as_slice.result.now c.in_ok-hidden.hidden.flags) (sym c.in_ok-signed.ensures) (record {
-        each_cell = are.each ∙ c.requires.each_cell;
+        each_cell = are.each ∙ c.requires.can.each_cell;
         each_flag = ap length c.in_ok-hidden.ensures ∙ length-replicate c.args.system.now.cells true;
       });
-      truths = known_few c.args.cells.now c.args.values.now (to_z w128 (of_z w128 c.args.base)) c.as_slice.result.now are c.requires.truths;
+      truths = known_few c.args.cells.now c.args.values.now (to_z w128 (of_z w128 c.args.base)) c.as_slice.result.now are c.requires.can.truths;
     }
 
 pub returns-in_err-audited-clause-fault : goal.returns-in_err-audited-clause-fault

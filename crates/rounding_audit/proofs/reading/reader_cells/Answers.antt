@@ -10,7 +10,7 @@ use Rattle.rounding_audit.proofs.reading.reader_cells.Goals as goal
 pub first_broken-requires-clause-from_zero : goal.first_broken-requires-clause-from_zero
 first_broken-requires-clause-from_zero c =
     let rounded = subst (λ b. AreRoundedBelow c.args.cells.now c.args.values.now b (length c.args.cells.now)) (to_z-of_z w128 c.args.base c.ranges.base) c.in_default.ensures.none in
-    all_from_zero c.args.cells.now c.args.values.now c.args.base c.requires.base c.requires.each_value rounded
+    all_from_zero c.args.cells.now c.args.values.now c.args.base c.requires.from_one c.requires.each_value rounded
 
 pub returns-in-Some-first_broken-clause-fault : goal.returns-in-Some-first_broken-clause-fault
 returns-in-Some-first_broken-clause-fault c = record {
