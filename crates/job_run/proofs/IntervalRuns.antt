@@ -10,8 +10,8 @@ use Rattle.job_inputs.specs.declared.faults.Fault.{Fault}
 use Rattle.job_inputs.specs.declared.file_ref.FileRef.TheVariants as file
 use Rattle.job_inputs.specs.declared.stop.InputStop.{InputStop}
 use Rattle.job_inputs.specs.declared.stop.InputStop.TheVariants as input
-use Rattle.published_tables.specs.IntervalFindings.{interval_finding}
-use Rattle.published_tables.specs.Findings.{IsFindingAnswer, IsFileOf, IsUndecidedFor}
+use Rattle.published_tables.specs.TableIntervals.{intervals_of_tables}
+use Rattle.published_tables.specs.TableFiles.{IsTablesAnswer, IsFileOf, IsUndecidedFor}
 use Rattle.published_tables.specs.TablesOnShelf.{ShelvedTables, shelved_of, IntervalsComeTo}
 use Rattle.published_tables.specs.TableStops.{reading_of as finding_of}
 use Rattle.published_tables.specs.declared.interval_file.IntervalFile.{IntervalFile}
@@ -64,26 +64,26 @@ inputs-leave (input.Refused f) outcome out tray = refl
 inputs-leave (input.ReadFault f) outcome out tray = refl
 inputs-leave input.Memory outcome out tray = refl
 
-stop-run : (name out : List ℕ) (e : TableStop) (old new : ShelfState) (tray : TrayState) → WhereTold old.files (λ fs. IsFindingAnswer interval_finding (shelved_of fs name out) (Err e))
+stop-run : (name out : List ℕ) (e : TableStop) (old new : ShelfState) (tray : TrayState) → WhereTold old.files (λ fs. IsTablesAnswer intervals_of_tables (shelved_of fs name out) (Err e))
     → WhereTold old.files (λ fs. ReachedFile (IntervalsComeTo fs name out) (finding_of {File = IntervalFile} (Err e)) fs new) → HasCause (finding_of {File = IntervalFile} (Err e)) old new → IsRunFor name out (stop_report e) old new tray tray
 stop-run name out (stop.Inputs why) old new tray told come cause =
     inputs-run (λ fs. shelved_of fs name out) (λ fs. IntervalsComeTo fs name out) IsIntervalEnd (IntervalsLeave out) why old new tray told (λ outcome. inputs-leave why outcome out tray) cause come
 stop-run name out (stop.NotAccepted why) old new tray told come cause =
     run-for name out (report.NotAccepted why) old new tray tray tt told (λ fs held. refl) (stop-cause (stop.NotAccepted why) old new tray cause) (λ fs held. read-comes (IntervalsComeTo fs name out) fs new)
 stop-run name out (stop.Undecided why) old new tray told come cause =
-    question-run (λ fs. shelved_of fs name out) (λ fs. IntervalsComeTo fs name out) IsIntervalEnd (IntervalsLeave out) (IsUndecidedFor interval_finding) why old new tray (λ holds one repairs shown against h. h) told (λ one outcome. refl) (λ outcome. refl)
+    question-run (λ fs. shelved_of fs name out) (λ fs. IntervalsComeTo fs name out) IsIntervalEnd (IntervalsLeave out) (IsUndecidedFor intervals_of_tables) why old new tray (λ holds one repairs shown against h. h) told (λ one outcome. refl) (λ outcome. refl)
 
 -- what holds of how it went on holds of a run that finds no intervals
-pub stopped-run : (name out : List ℕ) (e : TableStop) (old new : ShelfState) (tray : TrayState) → WhereTold old.files (λ fs. IsFindingAnswer interval_finding (shelved_of fs name out) (Err e))
+pub stopped-run : (name out : List ℕ) (e : TableStop) (old new : ShelfState) (tray : TrayState) → WhereTold old.files (λ fs. IsTablesAnswer intervals_of_tables (shelved_of fs name out) (Err e))
     → WhereTold old.files (λ fs. ReachedFile (IntervalsComeTo fs name out) (finding_of {File = IntervalFile} (Err e)) fs new) → HasCause (finding_of {File = IntervalFile} (Err e)) old new → HasOnlyLookedOn purpose.Intervals name old new → IsIntervalRunOf name out (stop_report e) old new tray tray
 stopped-run name out e old new tray told come cause shelf = record { run = stop-run name out e old new tray told come cause; one_put = λ n is. absurd (stop-puts-none e n is); at_most_one_put = inl refl; shelf = shelf }
 
 -- the same of a run that went on so, and reports it
-pub stopped-run-of : (name out : List ℕ) (r : Result IntervalFile TableStop) (e : TableStop) (answer : Report) (old new : ShelfState) (tray : TrayState) → r ≡ Err e → answer ≡ stop_report e → WhereTold old.files (λ fs. IsFindingAnswer interval_finding (shelved_of fs name out) r)
+pub stopped-run-of : (name out : List ℕ) (r : Result IntervalFile TableStop) (e : TableStop) (answer : Report) (old new : ShelfState) (tray : TrayState) → r ≡ Err e → answer ≡ stop_report e → WhereTold old.files (λ fs. IsTablesAnswer intervals_of_tables (shelved_of fs name out) r)
     → WhereTold old.files (λ fs. ReachedFile (IntervalsComeTo fs name out) (finding_of r) fs new) → HasCause (finding_of r) old new → HasOnlyLookedOn purpose.Intervals name old new → IsIntervalRunOf name out answer old new tray tray
 stopped-run-of name out r e answer old new tray is same told come cause shelf =
     subst (λ (a : Report). IsIntervalRunOf name out a old new tray tray) (sym same)
-    (stopped-run name out e old new tray (λ fs held. subst (λ (o : Result IntervalFile TableStop). IsFindingAnswer interval_finding (shelved_of fs name out) o) is (told fs held))
+    (stopped-run name out e old new tray (λ fs held. subst (λ (o : Result IntervalFile TableStop). IsTablesAnswer intervals_of_tables (shelved_of fs name out) o) is (told fs held))
     (λ fs held. subst (λ (o : Result IntervalFile TableStop). ReachedFile (IntervalsComeTo fs name out) (finding_of o) fs new) is (come fs held)) (subst (λ (o : Result IntervalFile TableStop). HasCause (finding_of o) old new) is cause) shelf)
 
 pub stopped-cause-of : (r : Result IntervalFile TableStop) (e : TableStop) (answer : Report) (old new : ShelfState) (tray : TrayState) → r ≡ Err e → answer ≡ stop_report e → HasCause (finding_of r) old new → FaultsHaveCauses answer old new tray tray
@@ -92,18 +92,18 @@ stopped-cause-of r e answer old new tray is same cause =
 
 -- ---- intervals were found
 
-put-leaves : (outcome : Result ShelvedTables Fault) (intervals : IntervalFile) (out : List ℕ) (before after : TrayState) → IsOkAnd outcome (λ one. IsFileOf interval_finding one intervals) → HasPut out intervals.bytes before after
+put-leaves : (outcome : Result ShelvedTables Fault) (intervals : IntervalFile) (out : List ℕ) (before after : TrayState) → IsOkAnd outcome (λ one. IsFileOf intervals_of_tables one intervals) → HasPut out intervals.bytes before after
     → IsOkAnd outcome (λ shelved. IsIntervalPut shelved out intervals.cells before after)
 put-leaves (Ok shelved) intervals out before after h whole = record { intervals = intervals; is_file = h; number = refl; put = whole }
 put-leaves (Err f) intervals out before after h whole = absurd h
 
-part-leaves : (outcome : Result ShelvedTables Fault) (intervals : IntervalFile) (out : List ℕ) (before after : TrayState) → IsOkAnd outcome (λ one. IsFileOf interval_finding one intervals) → HasPutInPart out intervals.bytes before after
+part-leaves : (outcome : Result ShelvedTables Fault) (intervals : IntervalFile) (out : List ℕ) (before after : TrayState) → IsOkAnd outcome (λ one. IsFileOf intervals_of_tables one intervals) → HasPutInPart out intervals.bytes before after
     → IsOkAnd outcome (λ shelved. IsIntervalPart shelved out before after)
 part-leaves (Ok shelved) intervals out before after h part = record { intervals = intervals; is_file = h; put = part }
 part-leaves (Err f) intervals out before after h part = absurd h
 
 -- the file of the intervals was put
-pub put-run : (name out : List ℕ) (intervals : IntervalFile) (old new : ShelfState) (before after : TrayState) → WhereTold old.files (λ fs. IsFindingAnswer interval_finding (shelved_of fs name out) (Ok intervals)) → HasPut out intervals.bytes before after → HasOnlyLookedOn purpose.Intervals name old new
+pub put-run : (name out : List ℕ) (intervals : IntervalFile) (old new : ShelfState) (before after : TrayState) → WhereTold old.files (λ fs. IsTablesAnswer intervals_of_tables (shelved_of fs name out) (Ok intervals)) → HasPut out intervals.bytes before after → HasOnlyLookedOn purpose.Intervals name old new
     → IsIntervalRunOf name out (report.Intervals intervals.cells) old new before after
 put-run name out intervals old new before after told whole shelf = record {
   run =
@@ -115,7 +115,7 @@ put-run name out intervals old new before after told whole shelf = record {
 }
 
 -- it was put in part
-pub part-run : (name out : List ℕ) (intervals : IntervalFile) (old new : ShelfState) (before after : TrayState) → WhereTold old.files (λ fs. IsFindingAnswer interval_finding (shelved_of fs name out) (Ok intervals)) → HasPutInPart out intervals.bytes before after → HasOnlyLookedOn purpose.Intervals name old new
+pub part-run : (name out : List ℕ) (intervals : IntervalFile) (old new : ShelfState) (before after : TrayState) → WhereTold old.files (λ fs. IsTablesAnswer intervals_of_tables (shelved_of fs name out) (Ok intervals)) → HasPutInPart out intervals.bytes before after → HasOnlyLookedOn purpose.Intervals name old new
     → IsIntervalRunOf name out (report.WriteFault file.Out) old new before after
 part-run name out intervals old new before after told part shelf = record {
   run =

@@ -6,8 +6,8 @@ use Rattle.office_io.specs.Trays.{TrayState, HasPut, HasPutInPart}
 use Rattle.job_inputs.specs.ClassifiedJobs.{HasOnlyLookedOn}
 use Rattle.job_inputs.specs.declared.faults.Fault.{Fault}
 use Rattle.job_inputs.specs.declared.file_ref.FileRef.TheVariants as file
-use Rattle.published_tables.specs.AuditFindings.{audit_finding}
-use Rattle.published_tables.specs.Findings.{AreRefusedFor, IsFileOf, IsUndecidedFor}
+use Rattle.published_tables.specs.TableAudits.{audit_of_tables}
+use Rattle.published_tables.specs.TableFiles.{AreRefusedFor, IsFileOf, IsUndecidedFor}
 use Rattle.job_inputs.specs.declared.purpose.Purpose.TheVariants.{Audit}
 use Rattle.published_tables.specs.TablesOnShelf.{ShelvedTables, shelved_for, ComesFor}
 use Rattle.published_tables.specs.declared.audit_file.AuditFile.{AuditFile}
@@ -21,9 +21,9 @@ use Rattle.job_run.specs.declared.report.Report.TheVariants as report
 -- can't be put
 abbrev pub IsAuditEnd : Ends ShelvedTables
 IsAuditEnd Holds (report.Audited primary exposed) = Holds (λ shelved. Unit {0})
-IsAuditEnd Holds (report.NotAccepted why) = Holds (λ shelved. AreRefusedFor audit_finding shelved why)
+IsAuditEnd Holds (report.NotAccepted why) = Holds (λ shelved. AreRefusedFor audit_of_tables shelved why)
 IsAuditEnd Holds (report.Undecided why repairs shown against) = Holds (λ shelved.
-    IsQuestionReport (IsUndecidedFor audit_finding shelved) (report.Undecided why repairs shown against))
+    IsQuestionReport (IsUndecidedFor audit_of_tables shelved) (report.Undecided why repairs shown against))
 IsAuditEnd Holds (report.WriteFault f) = Holds (λ shelved. f ≡ file.Out)
 IsAuditEnd Holds other = ⊥
 
@@ -31,7 +31,7 @@ IsAuditEnd Holds other = ⊥
 pub record IsAuditPut (shelved : ShelvedTables) (out : List ℕ) (primary exposed : ℕ)
     (before after : TrayState) : Type 0 where
   pub audit : AuditFile
-  pub is_file : IsFileOf audit_finding shelved audit
+  pub is_file : IsFileOf audit_of_tables shelved audit
   pub primary_cells : primary ≡ audit.primary
   pub exposed_cells : exposed ≡ audit.exposed
   pub put : HasPut out audit.bytes before after
@@ -39,7 +39,7 @@ pub record IsAuditPut (shelved : ShelvedTables) (out : List ℕ) (primary expose
 -- the first bytes of the file of the audit stand under its name, put once
 pub record IsAuditPart (shelved : ShelvedTables) (out : List ℕ) (before after : TrayState) : Type 0 where
   pub audit : AuditFile
-  pub is_file : IsFileOf audit_finding shelved audit
+  pub is_file : IsFileOf audit_of_tables shelved audit
   pub put : HasPutInPart out audit.bytes before after
 
 -- What the tray holds afterwards: the file of the audit, or after a write fault its first bytes; else all is as it

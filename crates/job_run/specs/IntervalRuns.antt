@@ -6,8 +6,8 @@ use Rattle.job_inputs.specs.ClassifiedJobs.{HasOnlyLookedOn}
 use Rattle.job_inputs.specs.declared.faults.Fault.{Fault}
 use Rattle.job_inputs.specs.declared.purpose.Purpose.TheVariants as purpose
 use Rattle.job_inputs.specs.declared.file_ref.FileRef.TheVariants as file
-use Rattle.published_tables.specs.IntervalFindings.{interval_finding}
-use Rattle.published_tables.specs.Findings.{AreRefusedFor, IsFileOf, IsUndecidedFor}
+use Rattle.published_tables.specs.TableIntervals.{intervals_of_tables}
+use Rattle.published_tables.specs.TableFiles.{AreRefusedFor, IsFileOf, IsUndecidedFor}
 use Rattle.published_tables.specs.TablesOnShelf.{ShelvedTables, shelved_of, IntervalsComeTo}
 use Rattle.published_tables.specs.declared.interval_file.IntervalFile.{IntervalFile}
 use Rattle.job_run.specs.CommandRuns.{Ends, IsRunOf}
@@ -20,23 +20,23 @@ use Rattle.job_run.specs.declared.report.Report.TheVariants as report
 -- file can't be put
 abbrev pub IsIntervalEnd : Ends ShelvedTables
 IsIntervalEnd Holds (report.Intervals cells) = Holds (λ shelved. Unit {0})
-IsIntervalEnd Holds (report.NotAccepted why) = Holds (λ shelved. AreRefusedFor interval_finding shelved why)
+IsIntervalEnd Holds (report.NotAccepted why) = Holds (λ shelved. AreRefusedFor intervals_of_tables shelved why)
 IsIntervalEnd Holds (report.Undecided why repairs shown against) = Holds (λ shelved.
-    IsQuestionReport (IsUndecidedFor interval_finding shelved) (report.Undecided why repairs shown against))
+    IsQuestionReport (IsUndecidedFor intervals_of_tables shelved) (report.Undecided why repairs shown against))
 IsIntervalEnd Holds (report.WriteFault f) = Holds (λ shelved. f ≡ file.Out)
 IsIntervalEnd Holds other = ⊥
 
 -- the file of the intervals of so many cells stands under its name, put once
 pub record IsIntervalPut (shelved : ShelvedTables) (out : List ℕ) (cells : ℕ) (before after : TrayState) : Type 0 where
   pub intervals : IntervalFile
-  pub is_file : IsFileOf interval_finding shelved intervals
+  pub is_file : IsFileOf intervals_of_tables shelved intervals
   pub number : cells ≡ intervals.cells
   pub put : HasPut out intervals.bytes before after
 
 -- the first bytes of the file of the intervals stand under its name, put once
 pub record IsIntervalPart (shelved : ShelvedTables) (out : List ℕ) (before after : TrayState) : Type 0 where
   pub intervals : IntervalFile
-  pub is_file : IsFileOf interval_finding shelved intervals
+  pub is_file : IsFileOf intervals_of_tables shelved intervals
   pub put : HasPutInPart out intervals.bytes before after
 
 -- What the tray holds afterwards: the file of the intervals, or after a write fault its first bytes; else all is as it

@@ -18,8 +18,8 @@ use Rattle.job_inputs.specs.Bases.{method_base}
 use Rattle.job_inputs.specs.declared.described.DescribedJob.{DescribedJob}
 use Rattle.job_inputs.specs.declared.settled.ClassifiedJob.{ClassifiedJob}
 use Rattle.published_tables.proofs.ReadingAlike.{values_alike}
-use Rattle.published_tables.specs.AuditFindings.{AreNoRounding, IsAuditFileFor, audit_finding}
-use Rattle.published_tables.specs.Findings.{AreRefusedFor, IsFileOf}
+use Rattle.published_tables.specs.TableAudits.{AreNoRounding, IsAuditFileFor, audit_of_tables}
+use Rattle.published_tables.specs.TableFiles.{AreRefusedFor, IsFileOf}
 use Rattle.published_tables.specs.ShownValues.{base_of_job}
 use Rattle.published_tables.specs.TableStops.{reader_stop}
 use Rattle.published_tables.specs.TablesOnShelf.{ShelvedTables}
@@ -68,7 +68,7 @@ no_fault one other values file why truths base sums is are = by are.first are.fi
     by reader.Memory first_is fault = absurd cc
 
 -- so tables that have an audit are not refused
-pub audit_or_fault : (shelved : ShelvedTables) (file : AuditFile) (why : CheckFault) → IsFileOf audit_finding shelved file → AreRefusedFor audit_finding shelved why → ⊥
+pub audit_or_fault : (shelved : ShelvedTables) (file : AuditFile) (why : CheckFault) → IsFileOf audit_of_tables shelved file → AreRefusedFor audit_of_tables shelved why → ⊥
 audit_or_fault shelved file why is (inl bad) =
     let alike = values_alike shelved.settled is.job bad.job shelved.tables is.job_is bad.job_is in
     let both : ◌≡◌ {A = Result (List ℤ) CheckFault} (Ok is.shown) (Err why) = sym is.shown_is ∙ alike ∙ bad.first in

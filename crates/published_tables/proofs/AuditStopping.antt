@@ -14,8 +14,8 @@ use Rattle.rounding_audit.specs.declared.audit_fault.AuditFault.{AuditFault}
 use Rattle.rounding_audit.specs.declared.audit_fault.AuditFault.TheVariants as audit
 use Rattle.rounding_audit.specs.declared.reader_fault.ReaderFault.TheVariants as reader
 use Rattle.job_inputs.specs.declared.settled.ClassifiedJob.{ClassifiedJob}
-use Rattle.published_tables.specs.AuditFindings.{IsAuditStuckAt, audit_finding}
-use Rattle.published_tables.specs.Findings.{ComesFrom}
+use Rattle.published_tables.specs.TableAudits.{IsAuditStuckAt, audit_of_tables}
+use Rattle.published_tables.specs.TableFiles.{ComesFrom}
 use Rattle.published_tables.specs.ShownValues.{base_of_job}
 use Rattle.published_tables.specs.TableStops.{audit_stop}
 
@@ -31,7 +31,7 @@ stuck_at job system values why is_book is fault size signed = record {
 
 -- and numbers without an audit stop the run
 pub audit_stops : (job : ClassifiedJob) (system : System) (values : List ℤ) (e : AuditFault) → IsBook job.book → IsSystemOf job.book system → IsAuditFault system job.cells values (base_of_job job) job.described.job.steps e → SizeIsLarge → ((signs : List Bool) → AreSigns system.relations signs → HasNoAuditWalk e)
-    → ComesFrom audit_finding job values (Err (audit_stop e))
+    → ComesFrom audit_of_tables job values (Err (audit_stop e))
 audit_stops job system values (audit.Reader (reader.Rounded cell)) is_book is fault size signed = record { system = system; system_is = is; first = reader.Rounded cell; first_is = refl; fault = fault.1 }
 audit_stops job system values (audit.Reader (reader.Relation number)) is_book is fault size signed = record { system = system; system_is = is; first = reader.Relation number; first_is = refl; fault = fault.1 }
 audit_stops job system values (audit.Reader reader.Memory) is_book is fault size signed = tt

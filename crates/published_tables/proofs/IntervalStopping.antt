@@ -11,8 +11,8 @@ use Rattle.linked_tables.specs.BookCells.{IsBook}
 use Rattle.relations.specs.Holding.{IsSystemOf}
 use Rattle.relations.proofs.SignedTables.{one_or_two_way_has_signs}
 use Rattle.job_inputs.specs.declared.settled.ClassifiedJob.{ClassifiedJob}
-use Rattle.published_tables.specs.Findings.{ComesFrom}
-use Rattle.published_tables.specs.IntervalFindings.{AreIntervalsStuckAt, interval_finding}
+use Rattle.published_tables.specs.TableFiles.{ComesFrom}
+use Rattle.published_tables.specs.TableIntervals.{AreIntervalsStuckAt, intervals_of_tables}
 use Rattle.published_tables.specs.TableStops.{question_stop}
 
 -- a question without an answer says why there are no intervals
@@ -29,7 +29,7 @@ stuck_at job system flags why not_memory is_book is fault size signed = record {
 
 -- and stops the run
 pub question_stops : (job : ClassifiedJob) (system : System) (flags : List Bool) (e : AskFault) → IsBook job.book → IsSystemOf job.book system → IsFaultOf system job.cells flags job.described.job.steps e → SizeIsLarge → ((signs : List Bool) → AreSigns system.relations signs → HasNoWalk e)
-    → ComesFrom interval_finding job flags (Err (question_stop e))
+    → ComesFrom intervals_of_tables job flags (Err (question_stop e))
 question_stops job system flags ask.Memory is_book is fault size signed = tt
 question_stops job system flags (ask.Work walk) is_book is fault size signed = stuck_at job system flags (ask.Work walk) (λ same. absurd cc) is_book is fault size signed
 question_stops job system flags (ask.Wide walk place) is_book is fault size signed = stuck_at job system flags (ask.Wide walk place) (λ same. absurd cc) is_book is fault size signed

@@ -23,9 +23,9 @@ use Rattle.cert_check.specs.declared.faults.CheckFault.{CheckFault}
 use Rattle.job_inputs.specs.ClassifiedJobs.{SettledInputs, IsSettledOf}
 use Rattle.job_inputs.specs.declared.settled.ClassifiedJob.{ClassifiedJob}
 use Rattle.published_tables.proofs.ReadingAlike.{flags_alike}
-use Rattle.published_tables.specs.Findings.{IsFileOf}
+use Rattle.published_tables.specs.TableFiles.{IsFileOf}
 use Rattle.published_tables.specs.HiddenLines.{flags_in}
-use Rattle.published_tables.specs.IntervalFindings.{interval_finding}
+use Rattle.published_tables.specs.TableIntervals.{intervals_of_tables}
 use Rattle.published_tables.specs.TablesOnShelf.{ShelvedTables}
 use Rattle.published_tables.specs.declared.interval_file.IntervalFile.{IntervalFile}
 
@@ -154,7 +154,7 @@ same_flags : (meant more : Result (List Bool) CheckFault) (one other : List Bool
 same_flags meant more one other same first second = let both : ◌≡◌ {A = Result (List Bool) CheckFault} (Ok other) (Ok one) = sym second ∙ sym same ∙ first in cc
 
 -- so the tables have one file
-pub one_file : FileIsOne → (shelved : ShelvedTables) (one other : IntervalFile) → IsFileOf interval_finding shelved one → IsFileOf interval_finding shelved other → one ≡ other
+pub one_file : FileIsOne → (shelved : ShelvedTables) (one other : IntervalFile) → IsFileOf intervals_of_tables shelved one → IsFileOf intervals_of_tables shelved other → one ≡ other
 one_file text_is_one shelved one other is_one is_other =
     let mine = is_one.holds in
     let yours = is_other.holds in

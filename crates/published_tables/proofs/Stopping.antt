@@ -12,7 +12,7 @@ use Rattle.job_inputs.specs.declared.faults.Fault.{Fault}
 use Rattle.job_inputs.specs.declared.file_ref.FileRef.{FileRef}
 use Rattle.job_inputs.specs.declared.settled.ClassifiedJob.{ClassifiedJob}
 use Rattle.job_inputs.specs.declared.stop.InputStop.TheVariants as input
-use Rattle.published_tables.specs.Findings.{Finding, ComesFrom, IsFindingAnswer, IsFindingOfSome}
+use Rattle.published_tables.specs.TableFiles.{FileOfTables, ComesFrom, IsTablesAnswer, IsAnswerOfSome}
 use Rattle.published_tables.specs.TableStops.{memory_stop, check_stop, reading_of}
 use Rattle.published_tables.specs.TablesOnShelf.{ShelvedTables}
 use Rattle.published_tables.specs.declared.table_stop.TableStop.{TableStop}
@@ -58,17 +58,17 @@ table_is (check.Relation number) = inr (refl, refl)
 table_is check.Memory = inl refl
 
 -- so it stops the run for the first fault of the tables
-pub table_stops : {A X F : Type 0} (finding : Finding X F) (meant : Result A CheckFault) (shelved : Result ShelvedTables Fault) (e : CheckFault) → Fails (check_fault_of e) meant
-    → ((why : CheckFault) → meant ≡ Err why → IsFindingAnswer finding shelved (Err (stop.NotAccepted why))) → IsFindingAnswer finding shelved (Err (check_stop e))
-table_stops {A} finding meant shelved e fails make = elim (table_is e) [
+pub table_stops : {A X F : Type 0} (kind : FileOfTables X F) (meant : Result A CheckFault) (shelved : Result ShelvedTables Fault) (e : CheckFault) → Fails (check_fault_of e) meant
+    → ((why : CheckFault) → meant ≡ Err why → IsTablesAnswer kind shelved (Err (stop.NotAccepted why))) → IsTablesAnswer kind shelved (Err (check_stop e))
+table_stops {A} kind meant shelved e fails make = elim (table_is e) [
   | inl memory ↦ rw memory tt
   | inr own ↦ rw (own.0) (make e (subst (λ (o : Option CheckFault). Fails o meant) own.1 fails))
 ]
 
 -- and is found so over any shelf
-pub table_found : {A X F : Type 0} (finding : Finding X F) (meant : Result A CheckFault) (e : CheckFault) → Fails (check_fault_of e) meant
-    → ((why : CheckFault) → meant ≡ Err why → (shelved : ShelvedTables) × AreSound shelved.settled.inputs × IsFindingAnswer finding (Ok shelved) (Err (stop.NotAccepted why))) → IsFindingOfSome finding (Err (check_stop e))
-table_found {A} finding meant e fails make = elim (table_is e) [
+pub table_found : {A X F : Type 0} (kind : FileOfTables X F) (meant : Result A CheckFault) (e : CheckFault) → Fails (check_fault_of e) meant
+    → ((why : CheckFault) → meant ≡ Err why → (shelved : ShelvedTables) × AreSound shelved.settled.inputs × IsTablesAnswer kind (Ok shelved) (Err (stop.NotAccepted why))) → IsAnswerOfSome kind (Err (check_stop e))
+table_found {A} kind meant e fails make = elim (table_is e) [
   | inl memory ↦ rw memory tt
   | inr own ↦ rw (own.0) (make e (subst (λ (o : Option CheckFault). Fails o meant) own.1 fails))
 ]
@@ -89,20 +89,20 @@ table_comes_to F e comes files new = elim (table_is e) [
 
 -- ---- what the tables show
 
--- what stops the finding for what tables show needs no cause of the shelf
-pub shown_cause : {X F : Type 0} (finding : Finding X F) (job : ClassifiedJob) (shown : X) (r : Result F TableStop) (old new : ShelfState) → ComesFrom finding job shown r → HasCause (reading_of r) old new
-shown_cause finding job shown (Ok file) old new comes = read_cause old new
-shown_cause finding job shown (Err (stop.Inputs (input.Refused f))) old new comes = absurd comes
-shown_cause finding job shown (Err (stop.Inputs (input.ReadFault f))) old new comes = absurd comes
-shown_cause finding job shown (Err (stop.Inputs input.Memory)) old new comes = memory_cause old new
-shown_cause finding job shown (Err (stop.NotAccepted e)) old new comes = read_cause old new
-shown_cause finding job shown (Err (stop.Undecided e)) old new comes = read_cause old new
+-- what stops the kind for what tables show needs no cause of the shelf
+pub shown_cause : {X F : Type 0} (kind : FileOfTables X F) (job : ClassifiedJob) (shown : X) (r : Result F TableStop) (old new : ShelfState) → ComesFrom kind job shown r → HasCause (reading_of r) old new
+shown_cause kind job shown (Ok file) old new comes = read_cause old new
+shown_cause kind job shown (Err (stop.Inputs (input.Refused f))) old new comes = absurd comes
+shown_cause kind job shown (Err (stop.Inputs (input.ReadFault f))) old new comes = absurd comes
+shown_cause kind job shown (Err (stop.Inputs input.Memory)) old new comes = memory_cause old new
+shown_cause kind job shown (Err (stop.NotAccepted e)) old new comes = read_cause old new
+shown_cause kind job shown (Err (stop.Undecided e)) old new comes = read_cause old new
 
 -- and came at no file
-pub shown_comes_to : {X F : Type 0} (finding : Finding X F) (job : ClassifiedJob) (shown : X) (r : Result F TableStop) (to : FileRef → List ℕ → Type 0) (files : Files) (new : ShelfState) → ComesFrom finding job shown r → ReachedFile to (reading_of r) files new
-shown_comes_to finding job shown (Ok file) to files new comes = read_comes to files new
-shown_comes_to finding job shown (Err (stop.Inputs (input.Refused f))) to files new comes = absurd comes
-shown_comes_to finding job shown (Err (stop.Inputs (input.ReadFault f))) to files new comes = absurd comes
-shown_comes_to finding job shown (Err (stop.Inputs input.Memory)) to files new comes = memory_comes to files new
-shown_comes_to finding job shown (Err (stop.NotAccepted e)) to files new comes = read_comes to files new
-shown_comes_to finding job shown (Err (stop.Undecided e)) to files new comes = read_comes to files new
+pub shown_comes_to : {X F : Type 0} (kind : FileOfTables X F) (job : ClassifiedJob) (shown : X) (r : Result F TableStop) (to : FileRef → List ℕ → Type 0) (files : Files) (new : ShelfState) → ComesFrom kind job shown r → ReachedFile to (reading_of r) files new
+shown_comes_to kind job shown (Ok file) to files new comes = read_comes to files new
+shown_comes_to kind job shown (Err (stop.Inputs (input.Refused f))) to files new comes = absurd comes
+shown_comes_to kind job shown (Err (stop.Inputs (input.ReadFault f))) to files new comes = absurd comes
+shown_comes_to kind job shown (Err (stop.Inputs input.Memory)) to files new comes = memory_comes to files new
+shown_comes_to kind job shown (Err (stop.NotAccepted e)) to files new comes = read_comes to files new
+shown_comes_to kind job shown (Err (stop.Undecided e)) to files new comes = read_comes to files new

@@ -3,9 +3,9 @@ use Rattle.std.specs.Prelude.{◌≡◌, ℕ, List, Result}
 use Rattle.cert_check.specs.declared.faults.CheckFault.{CheckFault}
 use Rattle.job_inputs.specs.ClassifiedJobs.{SettledInputs, IsSettledOf}
 use Rattle.job_inputs.specs.declared.settled.ClassifiedJob.{ClassifiedJob}
-use Rattle.published_tables.specs.AuditFindings.{audit_finding}
-use Rattle.published_tables.specs.Findings.{AreRefusedFor, IsFileOf}
-use Rattle.published_tables.specs.IntervalFindings.{interval_finding}
+use Rattle.published_tables.specs.TableAudits.{audit_of_tables}
+use Rattle.published_tables.specs.TableFiles.{AreRefusedFor, IsFileOf}
+use Rattle.published_tables.specs.TableIntervals.{intervals_of_tables}
 use Rattle.published_tables.specs.TablesOnShelf.{ShelvedTables}
 use Rattle.published_tables.specs.declared.audit_file.AuditFile.{AuditFile}
 use Rattle.published_tables.specs.declared.interval_file.IntervalFile.{IntervalFile}
@@ -21,13 +21,13 @@ AreReadAlike read =
 -- The tables of told files have one file of intervals: its bytes and the number of its cells are what the files give.
 abbrev pub HaveOneFile : Type 0
 HaveOneFile =
-    (shelved : ShelvedTables) (one other : IntervalFile) → IsFileOf interval_finding shelved one
-    → IsFileOf interval_finding shelved other
+    (shelved : ShelvedTables) (one other : IntervalFile) → IsFileOf intervals_of_tables shelved one
+    → IsFileOf intervals_of_tables shelved other
     → one ≡ other
 
 -- Tables that have a file of their audit have no fault, whatever jobs of the settled inputs the two are read by. So they
 -- are audited exactly where they aren't refused, but for a question without an answer.
 abbrev pub HaveAuditOrFault : Type 0
 HaveAuditOrFault =
-    (shelved : ShelvedTables) (file : AuditFile) (why : CheckFault) → IsFileOf audit_finding shelved file
-    → ¬ AreRefusedFor audit_finding shelved why
+    (shelved : ShelvedTables) (file : AuditFile) (why : CheckFault) → IsFileOf audit_of_tables shelved file
+    → ¬ AreRefusedFor audit_of_tables shelved why

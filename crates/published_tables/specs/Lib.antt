@@ -3,7 +3,7 @@ pub mod TablesOnShelf
 pub mod HiddenLines
 pub mod ShownValues
 pub mod TableStops
-pub mod Findings
-pub mod IntervalFindings
-pub mod AuditFindings
+pub mod TableFiles
+pub mod TableIntervals
+pub mod TableAudits
 pub mod Laws

@@ -3,20 +3,20 @@
 #![tactic(auto)]
 
 mod audit_file;
-mod audit_finding;
 mod hidden_lines;
 mod interval_file;
-mod interval_finding;
 mod laws;
 mod out_name;
 mod shelved;
 mod shown_values;
+mod table_audit;
+mod table_intervals;
 mod table_stop;
 
 pub use audit_file::AuditFile;
-pub use audit_finding::find_audit;
 pub use interval_file::IntervalFile;
-pub use interval_finding::find_intervals;
 pub use laws::{tables_are_audited_or_refused, tables_are_read_alike, tables_have_one_file};
 pub use shelved::{ShelvedJob, read_shelved};
+pub use table_audit::find_audit;
+pub use table_intervals::find_intervals;
 pub use table_stop::TableStop;

@@ -20,7 +20,7 @@ use Rattle.rounding_audit.specs.Readers.{all_hidden}
 use Rattle.rounding_audit.specs.declared.audited.AuditedCell.{AuditedCell}
 use Rattle.rounding_audit.specs.declared.reader_fault.ReaderFault.{ReaderFault}
 use Rattle.job_inputs.specs.declared.settled.ClassifiedJob.{ClassifiedJob}
-use Rattle.published_tables.specs.Findings.{Finding}
+use Rattle.published_tables.specs.TableFiles.{FileOfTables}
 use Rattle.published_tables.specs.ShownValues.{base_of_job, values_read}
 use Rattle.published_tables.specs.TableStops.{reader_stop}
 use Rattle.published_tables.specs.declared.audit_file.AuditFile.{AuditFile}
@@ -64,8 +64,8 @@ pub record IsAuditStuckAt (job : ClassifiedJob) (values : List ℤ) (why : AskFa
   pub signed : IsOneOrTwoWay job.book.trees job.book.tables → HasNoWalk why
 
 -- An audit of tables: they show numbers, which may be no rounding, and the file is that of the audit of a rounding.
-abbrev pub audit_finding : Finding (List ℤ) AuditFile
-audit_finding = record {
+abbrev pub audit_of_tables : FileOfTables (List ℤ) AuditFile
+audit_of_tables = record {
   read = values_read;
   is_file = IsAuditFileFor;
   has_fault = AreNoRounding;

@@ -11,7 +11,7 @@ use Rattle.relations.specs.Holding.{IsSystemOf}
 use Rattle.published_tables.proofs.Counting.{few_listed}
 use Rattle.published_tables.proofs.IntervalStopping.{question_stops}
 use Rattle.published_tables.proofs.Readying.{truths_within}
-use Rattle.published_tables.proofs.interval_finding.file_for.Goals as goal
+use Rattle.published_tables.proofs.table_intervals.file_for.Goals as goal
 
 pub intervals_of-requires-clause-truths : goal.intervals_of-requires-clause-truths
 intervals_of-requires-clause-truths c = subst (λ (cells : List Cell). All (λ (cell : Cell). cell.truth ≤ℤ pos (10 ^ 29)) cells) (sym c.as_slice.ensures) (truths_within c.args.shelved.now.job c.requires.ready.job)

@@ -2,8 +2,8 @@ ghost use Rattle.std.specs.Prelude.{◌≡◌, length};
 ghost use Rattle.sdc_base.specs.WhereTold.{WhereTold};
 ghost use Rattle.job_inputs.specs.Reading.{HasCause, ReachedFile};
 ghost use Rattle.job_inputs.specs.ClassifiedJobs.{HasOnlyLookedOn};
-ghost use Rattle.published_tables.specs.Findings.{ComesFrom, IsFindingAnswer, IsFindingOfSome};
-ghost use Rattle.published_tables.specs.IntervalFindings.{interval_finding};
+ghost use Rattle.published_tables.specs.TableFiles.{ComesFrom, IsTablesAnswer, IsAnswerOfSome};
+ghost use Rattle.published_tables.specs.TableIntervals.{intervals_of_tables};
 ghost use Rattle.published_tables.specs.TableStops.{reading_of};
 ghost use Rattle.published_tables.specs.TablesOnShelf.{shelved_of, IntervalsComeTo, IsReadyShelved};
 
@@ -50,10 +50,10 @@ pub fn find_intervals<S: Shelf>(
     // The answer is what the told files come to: the first fault of inputs, name and tables' files, or else what the
     // tables come to.
     ensures told { WhereTold (S.state shelf.old).files
-        (λ fs. IsFindingAnswer interval_finding (shelved_of fs name.now out.now) result) }
+        (λ fs. IsTablesAnswer intervals_of_tables (shelved_of fs name.now out.now) result) }
 
     // Over a shelf that tells nothing too, the answer is that of some inputs within their limits, with some tables.
-    ensures found { IsFindingOfSome interval_finding result }
+    ensures found { IsAnswerOfSome intervals_of_tables result }
 
     // Where the shelf fails at a file, the run came to it and nothing before it has a fault.
     ensures came_to { WhereTold (S.state shelf.old).files
@@ -74,7 +74,7 @@ pub fn find_intervals<S: Shelf>(
 fn file_for(alloc: Global, shelved: &ShelvedJob, hidden: &Hidden) -> Result<IntervalFile, TableStop>
     requires ready { IsReadyShelved shelved.now }
     requires each { length hidden.now.flags ≡ length shelved.now.job.cells }
-    ensures { ComesFrom interval_finding shelved.now.job hidden.now.flags result }
+    ensures { ComesFrom intervals_of_tables shelved.now.job hidden.now.flags result }
 {
     let job = &shelved.job;
     // for the proof: what holds of every book

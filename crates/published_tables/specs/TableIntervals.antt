@@ -14,7 +14,7 @@ use Rattle.cell_intervals.specs.Intervals.{AreIntervals, HasWholeEnds}
 use Rattle.cell_intervals.specs.Laws.{IsSize}
 use Rattle.cell_intervals.specs.declared.interval.CellInterval.{CellInterval}
 use Rattle.job_inputs.specs.declared.settled.ClassifiedJob.{ClassifiedJob}
-use Rattle.published_tables.specs.Findings.{Finding}
+use Rattle.published_tables.specs.TableFiles.{FileOfTables}
 use Rattle.published_tables.specs.HiddenLines.{flags_in}
 use Rattle.published_tables.specs.declared.interval_file.IntervalFile.{IntervalFile}
 
@@ -47,8 +47,8 @@ pub record AreIntervalsStuckAt (job : ClassifiedJob) (flags : List Bool) (why : 
 
 -- Intervals of tables: they show a hidden set without fixed cells, which has no further fault, and the file is that of
 -- its intervals.
-abbrev pub interval_finding : Finding (List Bool) IntervalFile
-interval_finding = record {
+abbrev pub intervals_of_tables : FileOfTables (List Bool) IntervalFile
+intervals_of_tables = record {
   read = flags_in;
   is_file = IsIntervalFileFor;
   has_fault = λ job flags why. ⊥;

@@ -13,22 +13,22 @@ use Rattle.published_tables.specs.TablesOnShelf.{ShelvedTables}
 use Rattle.published_tables.specs.declared.table_stop.TableStop.{TableStop}
 use Rattle.published_tables.specs.declared.table_stop.TableStop.TheVariants as stop
 
--- A way to make a file of tables: what they show, or their first fault; and then which file is made of what they
--- show, which fault that has, and why the file can't be made of it, since a question has no answer.
-pub record Finding (Shown File : Type 0) : Type 1 where
+-- A kind of file that is made of tables: what they show, or their first fault; and then which file is made of what
+-- they show, which fault that has, and why the file can't be made of it, since a question has no answer.
+pub record FileOfTables (Shown File : Type 0) : Type 1 where
   pub read : ClassifiedJob → List (List ℕ) → Result Shown CheckFault
   pub is_file : ClassifiedJob → Shown → File → Type 0
   pub has_fault : ClassifiedJob → Shown → CheckFault → Type 0
   pub is_stuck : ClassifiedJob → Shown → AskFault → Type 0
 
 -- the answer for what tables show: the file, the fault, or why a question has no answer, want of memory aside
-abbrev pub ComesFrom : {Shown File : Type 0} → Finding Shown File → ClassifiedJob → Shown → Result File TableStop
+abbrev pub ComesFrom : {Shown File : Type 0} → FileOfTables Shown File → ClassifiedJob → Shown → Result File TableStop
     → Type 0
-ComesFrom finding job shown (Ok file) = finding.is_file job shown file
-ComesFrom finding job shown (Err (stop.Inputs input.Memory)) = Unit {0}
-ComesFrom finding job shown (Err (stop.Inputs why)) = ⊥
-ComesFrom finding job shown (Err (stop.NotAccepted why)) = finding.has_fault job shown why
-ComesFrom finding job shown (Err (stop.Undecided why)) = finding.is_stuck job shown why
+ComesFrom kind job shown (Ok file) = kind.is_file job shown file
+ComesFrom kind job shown (Err (stop.Inputs input.Memory)) = Unit {0}
+ComesFrom kind job shown (Err (stop.Inputs why)) = ⊥
+ComesFrom kind job shown (Err (stop.NotAccepted why)) = kind.has_fault job shown why
+ComesFrom kind job shown (Err (stop.Undecided why)) = kind.is_stuck job shown why
 
 -- the tables of a job show something, of which this holds
 pub record IsShownBy {Shown : Type 0} (read : ClassifiedJob → List (List ℕ) → Result Shown CheckFault)
@@ -47,32 +47,32 @@ pub record HaveReadingFault {Shown : Type 0} (read : ClassifiedJob → List (Lis
   pub first : read job shelved.tables ≡ Err why
 
 -- this file is made of the tables of a job
-abbrev pub IsFileOf : {Shown File : Type 0} → Finding Shown File → ShelvedTables → File → Type 0
-IsFileOf finding shelved file = IsShownBy finding.read shelved (λ job shown. finding.is_file job shown file)
+abbrev pub IsFileOf : {Shown File : Type 0} → FileOfTables Shown File → ShelvedTables → File → Type 0
+IsFileOf kind shelved file = IsShownBy kind.read shelved (λ job shown. kind.is_file job shown file)
 
 -- this is the first fault of the tables of a job: they can't be read, or else what they show has it
-abbrev pub AreRefusedFor : {Shown File : Type 0} → Finding Shown File → ShelvedTables → CheckFault → Type 0
-AreRefusedFor finding shelved why =
-    HaveReadingFault finding.read shelved why
-    ⊎ IsShownBy finding.read shelved (λ job shown. finding.has_fault job shown why)
+abbrev pub AreRefusedFor : {Shown File : Type 0} → FileOfTables Shown File → ShelvedTables → CheckFault → Type 0
+AreRefusedFor kind shelved why =
+    HaveReadingFault kind.read shelved why
+    ⊎ IsShownBy kind.read shelved (λ job shown. kind.has_fault job shown why)
 
 -- the tables of a job show something, and this is why no file is made of it
-abbrev pub IsUndecidedFor : {Shown File : Type 0} → Finding Shown File → ShelvedTables → AskFault → Type 0
-IsUndecidedFor finding shelved why = IsShownBy finding.read shelved (λ job shown. finding.is_stuck job shown why)
+abbrev pub IsUndecidedFor : {Shown File : Type 0} → FileOfTables Shown File → ShelvedTables → AskFault → Type 0
+IsUndecidedFor kind shelved why = IsShownBy kind.read shelved (λ job shown. kind.is_stuck job shown why)
 
 -- What the run answers, by what the told files come to: the first fault of the inputs, of the name of the file to be
 -- put and of the tables' files; or else the first fault of the tables, the first question without an answer, or the
 -- file. Faults of the shelf and want of memory say nothing of the files.
-abbrev pub IsFindingAnswer : {Shown File : Type 0} → Finding Shown File → Result ShelvedTables Fault
+abbrev pub IsTablesAnswer : {Shown File : Type 0} → FileOfTables Shown File → Result ShelvedTables Fault
     → Result File TableStop → Type 0
-IsFindingAnswer finding shelved (Ok file) = IsOkAnd shelved (λ one. IsFileOf finding one file)
-IsFindingAnswer finding shelved (Err (stop.Inputs why)) = Fails (stopped_for why) shelved
-IsFindingAnswer finding shelved (Err (stop.NotAccepted why)) = IsOkAnd shelved (λ one. AreRefusedFor finding one why)
-IsFindingAnswer finding shelved (Err (stop.Undecided why)) = IsOkAnd shelved (λ one. IsUndecidedFor finding one why)
+IsTablesAnswer kind shelved (Ok file) = IsOkAnd shelved (λ one. IsFileOf kind one file)
+IsTablesAnswer kind shelved (Err (stop.Inputs why)) = Fails (stopped_for why) shelved
+IsTablesAnswer kind shelved (Err (stop.NotAccepted why)) = IsOkAnd shelved (λ one. AreRefusedFor kind one why)
+IsTablesAnswer kind shelved (Err (stop.Undecided why)) = IsOkAnd shelved (λ one. IsUndecidedFor kind one why)
 
 -- Whatever the shelf tells: an answer that doesn't stop the inputs is one that some inputs within their limits come to,
 -- with some tables.
-abbrev pub IsFindingOfSome : {Shown File : Type 0} → Finding Shown File → Result File TableStop → Type 0
-IsFindingOfSome finding (Err (stop.Inputs why)) = Unit {0}
-IsFindingOfSome finding other =
-    (shelved : ShelvedTables) × AreSound shelved.settled.inputs × IsFindingAnswer finding (Ok shelved) other
+abbrev pub IsAnswerOfSome : {Shown File : Type 0} → FileOfTables Shown File → Result File TableStop → Type 0
+IsAnswerOfSome kind (Err (stop.Inputs why)) = Unit {0}
+IsAnswerOfSome kind other =
+    (shelved : ShelvedTables) × AreSound shelved.settled.inputs × IsTablesAnswer kind (Ok shelved) other

@@ -5,10 +5,10 @@ use Rattle.published_tables.proofs.Answering.{refused_for, shown_comes, shown_fo
 use Rattle.published_tables.proofs.Coming.{ok_and}
 use Rattle.published_tables.proofs.Stopping.{table_stops, table_found, table_cause, table_comes_to, shown_cause, shown_comes_to}
 use Rattle.published_tables.specs.HiddenLines.{flags_in}
-use Rattle.published_tables.specs.IntervalFindings.{interval_finding}
+use Rattle.published_tables.specs.TableIntervals.{intervals_of_tables}
 use Rattle.published_tables.specs.TablesOnShelf.{shelved_of, IntervalsComeTo, IsShelvedOf}
 use Rattle.published_tables.specs.declared.interval_file.IntervalFile.{IntervalFile}
-use Rattle.published_tables.proofs.interval_finding.find_intervals.Goals as goal
+use Rattle.published_tables.proofs.table_intervals.find_intervals.Goals as goal
 
 -- ---- the inputs and the tables' files
 
@@ -32,14 +32,14 @@ returns-in_err-hidden-clause-told g c =
     let shelved = c.in_ok-shelved.shelved in
     let meant = shelved_of fs c.args.name.now c.args.out.now in
     let one = ok_and (λ it. IsShelvedOf it shelved) meant (c.in_ok-shelved.ensures.told fs told) in
-    rw (p.1, p.2) (table_stops interval_finding (flags_in shelved.job shelved.tables) meant c.in_err-hidden.field-0.0 c.in_err-hidden.ensures.exact (λ why first. refused_for interval_finding meant one.0 shelved why one.1 one.2 first))
+    rw (p.1, p.2) (table_stops intervals_of_tables (flags_in shelved.job shelved.tables) meant c.in_err-hidden.field-0.0 c.in_err-hidden.ensures.exact (λ why first. refused_for intervals_of_tables meant one.0 shelved why one.1 one.2 first))
 
 pub returns-in_err-hidden-clause-found : goal.returns-in_err-hidden-clause-found
 returns-in_err-hidden-clause-found g c =
     let p = err_from_is_err_and c.from_residual-in_err-hidden.result c.from_residual-in_err-hidden.ensures.1 in
     let shelved = c.in_ok-shelved.shelved in
     let some = c.in_ok-shelved.ensures.settled in
-    rw (p.1, p.2) (table_found interval_finding (flags_in shelved.job shelved.tables) c.in_err-hidden.field-0.0 c.in_err-hidden.ensures.exact (λ why first. (some.0, some.2, refused_for interval_finding (Ok some.0) some.0 shelved why refl some.1 first)))
+    rw (p.1, p.2) (table_found intervals_of_tables (flags_in shelved.job shelved.tables) c.in_err-hidden.field-0.0 c.in_err-hidden.ensures.exact (λ why first. (some.0, some.2, refused_for intervals_of_tables (Ok some.0) some.0 shelved why refl some.1 first)))
 
 pub returns-in_err-hidden-clause-came_to : goal.returns-in_err-hidden-clause-came_to
 returns-in_err-hidden-clause-came_to g c =
@@ -60,15 +60,15 @@ returns-clause-told g c =
     let shelved = c.in_ok-shelved.shelved in
     let meant = shelved_of fs c.args.name.now c.args.out.now in
     let one = ok_and (λ it. IsShelvedOf it shelved) meant (c.in_ok-shelved.ensures.told fs told) in
-    shown_comes interval_finding meant one.0 shelved c.in_ok-hidden.hidden.flags c.file_for.result one.1 one.2 c.in_ok-hidden.ensures.exact c.file_for.ensures
+    shown_comes intervals_of_tables meant one.0 shelved c.in_ok-hidden.hidden.flags c.file_for.result one.1 one.2 c.in_ok-hidden.ensures.exact c.file_for.ensures
 
 pub returns-clause-found : goal.returns-clause-found
 returns-clause-found g c =
     let some = c.in_ok-shelved.ensures.settled in
-    shown_found interval_finding some.0 c.in_ok-shelved.shelved c.in_ok-hidden.hidden.flags c.file_for.result some.2 some.1 c.in_ok-hidden.ensures.exact c.file_for.ensures
+    shown_found intervals_of_tables some.0 c.in_ok-shelved.shelved c.in_ok-hidden.hidden.flags c.file_for.result some.2 some.1 c.in_ok-hidden.ensures.exact c.file_for.ensures
 
 pub returns-clause-came_to : goal.returns-clause-came_to
-returns-clause-came_to g c = λ fs told. shown_comes_to interval_finding c.in_ok-shelved.shelved.job c.in_ok-hidden.hidden.flags c.file_for.result _ fs (g.S.Shelf.state c.read_shelved.new.shelf) c.file_for.ensures
+returns-clause-came_to g c = λ fs told. shown_comes_to intervals_of_tables c.in_ok-shelved.shelved.job c.in_ok-hidden.hidden.flags c.file_for.result _ fs (g.S.Shelf.state c.read_shelved.new.shelf) c.file_for.ensures
 
 pub returns-clause-cause : goal.returns-clause-cause
-returns-clause-cause g c = shown_cause interval_finding c.in_ok-shelved.shelved.job c.in_ok-hidden.hidden.flags c.file_for.result (g.S.Shelf.state c.args.shelf.now) (g.S.Shelf.state c.read_shelved.new.shelf) c.file_for.ensures
+returns-clause-cause g c = shown_cause intervals_of_tables c.in_ok-shelved.shelved.job c.in_ok-hidden.hidden.flags c.file_for.result (g.S.Shelf.state c.args.shelf.now) (g.S.Shelf.state c.read_shelved.new.shelf) c.file_for.ensures

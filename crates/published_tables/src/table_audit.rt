@@ -3,8 +3,8 @@ ghost use Rattle.sdc_base.specs.WhereTold.{WhereTold};
 ghost use Rattle.job_inputs.specs.Reading.{HasCause, ReachedFile};
 ghost use Rattle.job_inputs.specs.ClassifiedJobs.{HasOnlyLookedOn};
 ghost use Rattle.job_inputs.specs.declared.purpose.Purpose.TheVariants.{Audit};
-ghost use Rattle.published_tables.specs.AuditFindings.{audit_finding};
-ghost use Rattle.published_tables.specs.Findings.{ComesFrom, IsFindingAnswer, IsFindingOfSome};
+ghost use Rattle.published_tables.specs.TableAudits.{audit_of_tables};
+ghost use Rattle.published_tables.specs.TableFiles.{ComesFrom, IsTablesAnswer, IsAnswerOfSome};
 ghost use Rattle.published_tables.specs.TableStops.{reading_of};
 ghost use Rattle.published_tables.specs.TablesOnShelf.{shelved_for, ComesFor, IsReadyShelved};
 
@@ -49,10 +49,10 @@ pub fn find_audit<S: Shelf>(
     // The answer is what the told files come to: the first fault of inputs, name and tables' files, or else what the
     // tables come to.
     ensures told { WhereTold (S.state shelf.old).files
-        (λ fs. IsFindingAnswer audit_finding (shelved_for Audit fs name.now out.now) result) }
+        (λ fs. IsTablesAnswer audit_of_tables (shelved_for Audit fs name.now out.now) result) }
 
     // Over a shelf that tells nothing too, the answer is that of some inputs within their limits, with some tables.
-    ensures found { IsFindingOfSome audit_finding result }
+    ensures found { IsAnswerOfSome audit_of_tables result }
 
     // Where the shelf fails at a file, the run came to it and nothing before it has a fault.
     ensures came_to { WhereTold (S.state shelf.old).files
@@ -73,7 +73,7 @@ pub fn find_audit<S: Shelf>(
 fn file_for(alloc: Global, shelved: &ShelvedJob, values: &[i128]) -> Result<AuditFile, TableStop>
     requires ready { IsReadyShelved shelved.now }
     requires each { length values.now ≡ length shelved.now.job.cells }
-    ensures { ComesFrom audit_finding shelved.now.job values.now result }
+    ensures { ComesFrom audit_of_tables shelved.now.job values.now result }
 {
     let job = &shelved.job;
     // for the proof: what holds of every book

@@ -21,10 +21,22 @@ use Rattle.published_tables.proofs.Readying.{truths_within}
 use Rattle.published_tables.specs.ShownValues.{base_of_job}
 use Rattle.published_tables.proofs.AuditStopping.{audit_stops}
 use Rattle.published_tables.proofs.Counting.{few_listed}
-use Rattle.published_tables.proofs.audit_finding.file_for.Goals as goal
+use Rattle.published_tables.proofs.table_audit.file_for.Goals as goal
 
-pub audit_of-requires-clause-truths : goal.audit_of-requires-clause-truths
-audit_of-requires-clause-truths c = subst (λ (cells : List Cell). All (λ (cell : Cell). cell.truth ≤ℤ pos (10 ^ 29)) cells) (sym c.as_slice.ensures) (truths_within c.args.shelved.now.job c.requires.ready.job)
+pub audit_of-requires-clause-can : goal.audit_of-requires-clause-can
+audit_of-requires-clause-can c =
+    let job = c.args.shelved.now.job in
+    let all = ap (λ (cells : List Cell). length cells) c.as_slice.ensures in
+    let counted = c.in_ok-system.ensures.cells in
+    let fits : FitsSigned w128 c.base_in_units-base.result = search rules in
+    let base = sym (to_z-of_z w128 c.base_in_units-base.result fits) in
+    record {
+      each_cell = omega (arith, all, counted, c.requires.ready.job.one_each, c.requires.ready.job.settled);
+      each_value = omega (arith, all, c.requires.each);
+      truths = subst (λ (cells : List Cell). All (λ (cell : Cell). cell.truth ≤ℤ pos (10 ^ 29)) cells) (sym c.as_slice.ensures) (truths_within job c.requires.ready.job);
+      from_one = subst (λ z. pos 1 ≤ℤ z) base c.base_in_units-base.ensures.from_one;
+      at_most_10_22 = subst (λ z. z ≤ℤ pos (10 ^ 22)) base c.base_in_units-base.ensures.at_most;
+    }
 
 pub returns-in_err-audited : goal.returns-in_err-audited
 returns-in_err-audited c =
