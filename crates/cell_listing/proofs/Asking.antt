@@ -1,16 +1,13 @@
 -- Which words ask for which listing.
-use Rattle.std.proofs.Common.{◌≡◌, ℕ, ◌==◌, Bool, true, false, List, [], ◌∷◌, length, get_or, None, Some, Result, Err, ◌≢◌, refl, ap, sym, ◌∙◌, bytes_eq, if◌then◌else◌, arith}
+use Rattle.std.proofs.Common.{◌≡◌, ℕ, ◌==◌, Bool, true, false, List, [], ◌∷◌, length, get_or, None, Some, Result, Err, ◌≢◌, refl, ap, sym, subst, ◌∙◌, bytes_eq, if◌then◌else◌, arith}
 use Rattle.std.proofs.lemmas.Bool.Decides.{nat_tests}
 use Rattle.std.specs.Prelude.{codes}
 use Rattle.std.proofs.lemmas.Slice.Eq.{bytes_eq-Decides}
-use Rattle.cell_listing.specs.Asked.{asked_stop, job_and_file_for_intervals, intervals_stop, asks_for_intervals, named_with, job_for_release, job_for_relations}
+use Rattle.cell_listing.specs.Asked.{job_and_file_for_intervals, asks_for_intervals, named_with, job_for_release, job_for_relations}
 use Rattle.cell_listing.specs.Calls.{job_named}
-use Rattle.cell_listing.specs.declared.asked.AskStop.TheVariants as asked
-use Rattle.cell_listing.specs.declared.calls.ListStop.{ListStop}
-use Rattle.cell_listing.specs.declared.asked.AskStop.{AskStop}
-use Rattle.cell_listing.specs.declared.calls.ListStop.TheVariants as list
-use Rattle.cell_listing.specs.declared.interval_stop.IntervalStop.{IntervalStop}
-use Rattle.cell_listing.specs.declared.interval_stop.IntervalStop.TheVariants as interval
+use Rattle.cell_listing.specs.IntervalRuns.{IsOfSome}
+use Rattle.cell_listing.specs.declared.stop.ListingStop.{ListingStop}
+use Rattle.cell_listing.specs.declared.stop.ListingStop.TheVariants as stop
 use Rattle.std.specs.Prelude.{Vec}
 use Rattle.std.specs.declared.alloc.Global.{Global}
 
@@ -41,11 +38,6 @@ one_option ((b ∷ rest) ∷ word ∷ []) name is = by (bytes_eq word (codes "--
     by true same is = let word_is : word ≡ codes "--relations" = (bytes_eq-Decides word (codes "--relations")).0 same in rw word_is refl
     by false same is = absurd cc
 one_option ((b ∷ rest) ∷ word ∷ other ∷ words) name is = refl
-
--- only words that name no job are a usage
-pub usage_alone : (stop : ListStop) → asked_stop stop ≡ asked.Usage → stop ≡ list.Usage
-usage_alone list.Usage is = refl
-usage_alone (list.Inputs input) is = absurd cc
 
 -- words that ask for intervals name no job alone
 pub no_job_by_four : (words : List (List ℕ)) (names : List ℕ × List ℕ) → job_and_file_for_intervals words ≡ Some names → job_named words ≡ None
@@ -92,8 +84,6 @@ named_by_four words name first second file p q r s test size in0 in1 in2 in3 is 
     ap (λ (t : Bool). if t then Some (name, file) else None) (sym is) ∙ four_asked name first second file
     ∙ ap job_and_file_for_intervals (sym (four_words words name first second file p q r s size in0 in1 in2 in3))
 
--- a stop of a listing with intervals is no usage
-pub no_interval_usage : (stop : IntervalStop) → ◌≢◌ {A = Result (Vec ℕ Global) AskStop} (Err (intervals_stop stop)) (Err asked.Usage)
-no_interval_usage (interval.Release why) = λ is. absurd cc
-no_interval_usage (interval.File why) = λ is. absurd cc
-no_interval_usage interval.Memory = λ is. absurd cc
+-- a run of a listing with intervals ends in no usage
+pub no_usage_of : (answer : Result (Vec ℕ Global) ListingStop) → IsOfSome answer → answer ≢ Err stop.Usage
+no_usage_of answer it is = subst (λ (one : Result (Vec ℕ Global) ListingStop). IsOfSome one) is it

@@ -1,9 +1,11 @@
 -- What stops a listing of a release with its intervals, and what it answers.
-use Rattle.std.proofs.Common.{◌≡◌, ◌≢◌, ℕ, ◌+◌, ◌<◌, List, length, Option, None, Some, Result, Ok, Err, refl, sym, subst, ◌∙◌, arith}
-use Rattle.std.specs.Prelude.{Vec}
+use Rattle.std.proofs.Common.{◌≡◌, ◌≢◌, ℕ, ◌+◌, ◌<◌, List, length, Option, None, Some, Result, Ok, Err, refl, ap, sym, subst, ◌∙◌, arith}
+use Rattle.std.specs.Prelude.{Vec, replicate}
+use Rattle.std.proofs.lemmas.List.{length-replicate}
 use Rattle.std.specs.Option.{IsSomeAnd}
 use Rattle.std.specs.declared.alloc.Global.{Global}
 use Rattle.sdc_base.specs.Counts.{HasRisen}
+use Rattle.sdc_base.specs.Steps.{map_fault}
 use Rattle.sdc_base.specs.WhereTold.{WhereTold}
 use Rattle.plain_text.specs.declared.stop.Stop.{Stop}
 use Rattle.plain_text.specs.declared.stop.Stop.TheVariants as line
@@ -28,14 +30,13 @@ use Rattle.job_check.specs.declared.stop.CheckStop.{CheckStop}
 use Rattle.job_check.specs.declared.stop.CheckStop.TheVariants as check
 use Rattle.cell_listing.specs.IntervalFiles.{hidden_in, IsNoIntervalFile}
 use Rattle.cell_listing.specs.IntervalListings.{IsIntervalListingOf}
-use Rattle.cell_listing.specs.IntervalRuns.{file_stop, HasFileCause, IsFileAnswer, IsFileRead, IsIntervalListingAnswer, IsIntervalsRun, IsListedWith, IsOfSome, IsOwnStop, line_stop}
+use Rattle.cell_listing.specs.IntervalRuns.{file_fault, HasFileCause, IsFileRun, IsHeldAnswer, IsIntervalListingAnswer, IsIntervalsRun, IsListedWith, IsOfSome, IsSomeAcceptedAnswer, line_fault}
 use Rattle.cell_listing.specs.Runs.{IsReleasedRun}
-use Rattle.cell_listing.specs.declared.interval_stop.IntervalFault.{IntervalFault}
-use Rattle.cell_listing.specs.declared.interval_stop.IntervalFault.TheVariants as fault
-use Rattle.cell_listing.specs.declared.interval_stop.IntervalStop.{IntervalStop}
-use Rattle.cell_listing.specs.declared.interval_stop.IntervalStop.TheVariants as stop
+use Rattle.cell_listing.specs.declared.stop.IntervalFault.{IntervalFault}
+use Rattle.cell_listing.specs.declared.stop.IntervalFault.TheVariants as fault
+use Rattle.cell_listing.specs.declared.stop.ListingStop.TheVariants as stop
 
--- ---- the reading of a file
+-- ---- the file
 
 -- what is said of a whole reading that stops
 pub record HasStopped (name : List ℕ) (why : FileFault) (old new : ShelfState) : Type 0 where
@@ -54,94 +55,77 @@ longer_held : (held : Option (List ℕ)) → held ≢ None → WhereTold held (�
 longer_held None some longer = absurd (some refl)
 longer_held (Some bytes) some longer = longer bytes refl
 
-pub reading_stops : (name : List ℕ) (why : FileFault) (old new : ShelfState) → HasStopped name why old new → IsFileRead name (Err (file_stop why)) old new
-reading_stops name file.Absent old new has = record {
+-- there are files beyond each limit
+some_longer : (limit : ℕ) → (held : Option (List ℕ)) × IsSomeAnd held (λ bytes. limit < length bytes)
+some_longer limit = (Some (replicate (limit + 1) 0), omega (arith, length-replicate {A = ℕ} (limit + 1) 0))
+
+-- the answer where the file was not read
+pub file_stops : (released : ReleasedFiles) (name : List ℕ) (why : FileFault) (old new : ShelfState) → HasStopped name why old new → IsFileRun released name (Err (file_fault why)) old new
+file_stops released name file.Absent old new has = record {
   told = λ fs told. (has.absent refl).not_held fs told;
-  own = tt;
+  of_some = (None, refl);
   cause = λ why is. record { absent = λ absent. (has.absent refl).absent; too_long = λ bad. absurd cc; failed = λ bad. absurd cc; last = has.looked_for.last };
-  last = has.looked_for.last;
   shelf = looked name old new has.looked_for has.only_read;
 }
-reading_stops name file.Failed old new has = record {
+file_stops released name file.Failed old new has = record {
   told = λ fs told. tt;
-  own = tt;
+  of_some = (None, tt);
   cause = λ why is. record { absent = λ bad. absurd cc; too_long = λ bad. absurd cc; failed = λ failed. has.failed refl; last = has.looked_for.last };
-  last = has.looked_for.last;
   shelf = looked name old new has.looked_for has.only_read;
 }
-reading_stops name file.TooLong old new has = record {
+file_stops released name file.TooLong old new has = record {
   told = λ fs told. longer_held (fs name) ((has.longer refl).held fs told) (λ bytes is. (has.longer refl).longer fs told bytes is);
-  own = tt;
+  of_some = some_longer output_limit;
   cause = λ why is. record { absent = λ bad. absurd cc; too_long = λ long. has.taken refl; failed = λ bad. absurd cc; last = has.looked_for.last };
-  last = has.looked_for.last;
   shelf = looked name old new has.looked_for has.only_read;
 }
-reading_stops name file.Memory old new has = record {
+file_stops released name file.Memory old new has = record {
   told = λ fs told. tt;
-  own = tt;
-  cause = λ why is. absurd cc;
-  last = has.looked_for.last;
+  of_some = (None, tt);
+  cause = λ why is. record { absent = λ bad. absurd cc; too_long = λ bad. absurd cc; failed = λ bad. absurd cc; last = has.looked_for.last };
   shelf = looked name old new has.looked_for has.only_read;
 }
 
-pub reading_ends : (name : List ℕ) (bytes : Vec ℕ Global) (old new : ShelfState) → IsWholeFile name output_limit bytes.items old new → HasLookedFor name output_limit old new → HasOnlyRead old new → IsFileRead name (Ok bytes) old new
-reading_ends name bytes old new whole for read = record {
-  told = λ fs told. whole.file fs told;
-  own = tt;
-  cause = λ why is. absurd cc;
-  last = for.last;
+-- what is said of the bytes of the file
+held_answers : (released : ReleasedFiles) (held : Option (List ℕ)) (bytes : List ℕ) (answer : Result (Vec ℕ Global) IntervalFault) → held ≡ Some bytes → IsListedWith released bytes answer → IsHeldAnswer released held answer
+held_answers released held bytes (Ok listing) is listed = subst (λ (o : Option (List ℕ)). IsSomeAnd o (λ one. IsIntervalListingOf released one listing.items)) (sym is) listed
+held_answers released held bytes (Err (fault.Line number)) is listed = subst (λ (o : Option (List ℕ)). IsSomeAnd o (λ one. IsNoIntervalFile (hidden_in released) one number)) (sym is) listed
+held_answers released held bytes (Err fault.Memory) is listed = tt
+held_answers released held bytes (Err fault.Absent) is listed = absurd listed
+held_answers released held bytes (Err fault.TooLong) is listed = absurd listed
+held_answers released held bytes (Err fault.Failed) is listed = absurd listed
+
+-- bytes that were read are refused for a line, or for want of memory
+listed_cause : (name : List ℕ) (released : ReleasedFiles) (bytes : List ℕ) (answer : Result (Vec ℕ Global) IntervalFault) (why : IntervalFault) (old new : ShelfState) → IsListedWith released bytes answer → answer ≡ Err why → WhereTold old.files (λ fs. new.last ≡ held_name fs name)
+    → HasFileCause name why old new
+listed_cause name released bytes (Ok listing) why old new listed is last = absurd cc
+listed_cause name released bytes (Err fault.Absent) why old new listed is last = absurd listed
+listed_cause name released bytes (Err fault.TooLong) why old new listed is last = absurd listed
+listed_cause name released bytes (Err fault.Failed) why old new listed is last = absurd listed
+listed_cause name released bytes (Err fault.Memory) why old new listed is last = record { absent = λ bad. absurd cc; too_long = λ bad. absurd cc; failed = λ bad. absurd cc; last = last }
+listed_cause name released bytes (Err (fault.Line number)) why old new listed is last = record { absent = λ bad. absurd cc; too_long = λ bad. absurd cc; failed = λ bad. absurd cc; last = last }
+
+-- the answer where the file was read
+pub file_ends : (released : ReleasedFiles) (name : List ℕ) (bytes : Vec ℕ Global) (answer : Result (Vec ℕ Global) IntervalFault) (old new : ShelfState) → IsWholeFile name output_limit bytes.items old new → HasLookedFor name output_limit old new → HasOnlyRead old new
+    → IsListedWith released bytes.items answer → IsFileRun released name answer old new
+file_ends released name bytes answer old new whole for read listed = record {
+  told = λ fs told. held_answers released (fs name) bytes.items answer (whole.file fs told) listed;
+  of_some = (Some bytes.items, held_answers released (Some bytes.items) bytes.items answer refl listed);
+  cause = λ why is. listed_cause name released bytes.items answer why old new listed is for.last;
   shelf = looked name old new for read;
 }
 
+-- lines that stop the reading of ranges stop the listing
+pub lines_stop : (released : ReleasedFiles) (hidden bytes : List ℕ) (e : Stop ℕ) → hidden ≡ hidden_in released → ((number : ℕ) → e ≡ line.Fault number → IsNoIntervalFile hidden bytes number) → IsListedWith released bytes (Err (line_fault e))
+lines_stop released hidden bytes (line.Fault number) same none = subst (λ (cells : List ℕ). IsNoIntervalFile cells bytes number) same (none number refl)
+lines_stop released hidden bytes line.Memory same none = tt
+
 -- ---- the run
-
--- the file's own stop, where the release is accepted
-stop_answers : (meant : Result ReleasedFiles Fault) (read : ReadRelease) (held : Option (List ℕ)) (e : IntervalStop) → IsReadReleaseAnswer meant (Ok read) → IsFileAnswer held (Err e) → IsIntervalListingAnswer meant held (Err e)
-stop_answers (Ok released) read held (stop.Release check) got answer = absurd answer
-stop_answers (Ok released) read held (stop.File fault.Absent) got answer = (got.accepted, answer)
-stop_answers (Ok released) read held (stop.File fault.TooLong) got answer = (got.accepted, answer)
-stop_answers (Ok released) read held (stop.File fault.Failed) got answer = (got.accepted, tt)
-stop_answers (Ok released) read held (stop.File (fault.Line number)) got answer = absurd answer
-stop_answers (Ok released) read held stop.Memory got answer = (got.accepted, tt)
-stop_answers (Err e') read held e got answer = absurd got
-
-stop_some : (read : ReadRelease) (e : IntervalStop) → IsAcceptedRead read → IsOwnStop (Err e) → IsOfSome (Err e)
-stop_some read (stop.Release check) it own = absurd own
-stop_some read (stop.File fault.Absent) it own = (it.released, it.accepted.accepted, it.sound, tt)
-stop_some read (stop.File fault.TooLong) it own = (it.released, it.accepted.accepted, it.sound, tt)
-stop_some read (stop.File fault.Failed) it own = (it.released, it.accepted.accepted, it.sound, tt)
-stop_some read (stop.File (fault.Line number)) it own = absurd own
-stop_some read stop.Memory it own = (it.released, it.accepted.accepted, it.sound, tt)
-
-no_check : (name : List ℕ) (e : IntervalStop) (check : CheckStop) (old new : ShelfState) → IsOwnStop (Err e) → ◌≡◌ {A = Result (Vec ℕ Global) IntervalStop} (Err e) (Err (stop.Release check)) → IsReleasedRun name (Err check) old new
-no_check name (stop.Release other) check old new own is = absurd own
-no_check name (stop.File why) check old new own is = absurd cc
-no_check name stop.Memory check old new own is = absurd cc
-
--- a cause after the reading of the release
-cause_on : (name : List ℕ) (why : IntervalFault) (old mid new : ShelfState) → HasOnlyRead old mid → HasFileCause name why mid new → HasFileCause name why old new
-cause_on name why old mid new first cause = record {
-  absent = λ is. omega (arith, first.absences, cause.absent is);
-  too_long = cause.too_long;
-  failed = λ is. omega (arith, first.faults, cause.failed is);
-  last = λ fs told. cause.last fs (first.files ∙ told);
-}
-
--- the run where the file isn't read to its end
-pub run_stops : (name file : List ℕ) (read : ReadRelease) (e : IntervalStop) (old mid new : ShelfState) → WhereTold old.files (λ fs. IsReadReleaseAnswer (released_of fs name) (Ok read)) → IsAcceptedRead read → HasOnlyLooked output_limit old mid
-    → IsFileRead file (Err e) mid new → IsIntervalsRun name file (Err e) old new
-run_stops name file read e old mid new accepted it first second = record {
-  told = λ fs told. stop_answers (released_of fs name) read (fs file) e (accepted fs told) (second.told fs (first.only_read.files ∙ told));
-  of_some = stop_some read e it second.own;
-  refused = λ check is. no_check name e check old new second.own is;
-  cause = λ why is. cause_on file why old mid new first.only_read (second.cause why is);
-  shelf = look-on output_limit old mid new first second.shelf;
-}
 
 -- the run where the release isn't accepted, or was not read to its end
 pub run_refused : (name file : List ℕ) (e : CheckStop) (old new : ShelfState) → WhereTold old.files (λ fs. IsReleaseCheckAnswer (released_of fs name) (Err e))
     → WhereTold old.files (λ fs. (input : InputStop) → e ≡ check.Inputs input → ReachedFile {X = Unit {0}} (ReleaseComesTo fs name) (Err input) fs new) → HasOnlyLookedOn purpose.Release name old new
-    → ((input : InputStop) → e ≡ check.Inputs input → HasCause {X = Unit {0}} (Err input) old new) → IsIntervalsRun name file (Err (stop.Release e)) old new
+    → ((input : InputStop) → e ≡ check.Inputs input → HasCause {X = Unit {0}} (Err input) old new) → IsIntervalsRun name file (Err (stop.Stopped e)) old new
 run_refused name file e old new answers came_to looks cause =
     let run : IsReleasedRun name (Err e) old new = record {
       told = λ fs told. answers fs told;
@@ -158,65 +142,44 @@ run_refused name file e old new answers came_to looks cause =
       shelf = looks.only_looked;
     }
 
--- what is said of the bytes of the file
-listed_answers : (meant : Result ReleasedFiles Fault) (read : ReadRelease) (held : Option (List ℕ)) (bytes : List ℕ) (answer : Result (Vec ℕ Global) IntervalStop) → IsReadReleaseAnswer meant (Ok read) → held ≡ Some bytes
-    → ((released : ReleasedFiles) → IsAcceptedAs released read → IsListedWith released bytes answer) → IsIntervalListingAnswer meant held answer
-listed_answers (Err e') read held bytes answer got is listed = absurd got
-listed_answers (Ok released) read held bytes (Ok listing) got is listed = (got.accepted, subst (λ (o : Option (List ℕ)). IsSomeAnd o (λ one. IsIntervalListingOf released one listing.items)) (sym is) (listed released got))
-listed_answers (Ok released) read held bytes (Err (stop.File (fault.Line number))) got is listed = (got.accepted, subst (λ (o : Option (List ℕ)). IsSomeAnd o (λ one. IsNoIntervalFile (hidden_in released) one number)) (sym is) (listed released got))
-listed_answers (Ok released) read held bytes (Err stop.Memory) got is listed = (got.accepted, tt)
-listed_answers (Ok released) read held bytes (Err (stop.Release check)) got is listed = absurd (listed released got)
-listed_answers (Ok released) read held bytes (Err (stop.File fault.Absent)) got is listed = absurd (listed released got)
-listed_answers (Ok released) read held bytes (Err (stop.File fault.TooLong)) got is listed = absurd (listed released got)
-listed_answers (Ok released) read held bytes (Err (stop.File fault.Failed)) got is listed = absurd (listed released got)
-
-listed_some : (read : ReadRelease) (bytes : List ℕ) (answer : Result (Vec ℕ Global) IntervalStop) → IsAcceptedRead read → ((released : ReleasedFiles) → IsAcceptedAs released read → IsListedWith released bytes answer) → IsOfSome answer
-listed_some read bytes (Ok listing) it listed = (it.released, it.accepted.accepted, it.sound, (bytes, listed it.released it.accepted))
-listed_some read bytes (Err (stop.File (fault.Line number))) it listed = (it.released, it.accepted.accepted, it.sound, (bytes, listed it.released it.accepted))
-listed_some read bytes (Err stop.Memory) it listed = (it.released, it.accepted.accepted, it.sound, tt)
-listed_some read bytes (Err (stop.Release check)) it listed = absurd (listed it.released it.accepted)
-listed_some read bytes (Err (stop.File fault.Absent)) it listed = absurd (listed it.released it.accepted)
-listed_some read bytes (Err (stop.File fault.TooLong)) it listed = absurd (listed it.released it.accepted)
-listed_some read bytes (Err (stop.File fault.Failed)) it listed = absurd (listed it.released it.accepted)
-
-listed_no_check : (name : List ℕ) (released : ReleasedFiles) (bytes : List ℕ) (answer : Result (Vec ℕ Global) IntervalStop) (check : CheckStop) (old new : ShelfState) → IsListedWith released bytes answer → answer ≡ Err (stop.Release check) → IsReleasedRun name (Err check) old new
-listed_no_check name released bytes (Ok listing) check old new listed is = absurd cc
-listed_no_check name released bytes (Err (stop.Release other)) check old new listed is = absurd listed
-listed_no_check name released bytes (Err (stop.File why)) check old new listed is = absurd cc
-listed_no_check name released bytes (Err stop.Memory) check old new listed is = absurd cc
-
--- bytes that were read are refused for a line alone
-listed_cause : (name : List ℕ) (released : ReleasedFiles) (bytes : List ℕ) (answer : Result (Vec ℕ Global) IntervalStop) (why : IntervalFault) (old new : ShelfState) → IsListedWith released bytes answer → answer ≡ Err (stop.File why) → WhereTold old.files (λ fs. new.last ≡ held_name fs name)
-    → HasFileCause name why old new
-listed_cause name released bytes (Ok listing) why old new listed is last = absurd cc
-listed_cause name released bytes (Err stop.Memory) why old new listed is last = absurd cc
-listed_cause name released bytes (Err (stop.Release check)) why old new listed is last = absurd cc
-listed_cause name released bytes (Err (stop.File fault.Absent)) why old new listed is last = absurd listed
-listed_cause name released bytes (Err (stop.File fault.TooLong)) why old new listed is last = absurd listed
-listed_cause name released bytes (Err (stop.File fault.Failed)) why old new listed is last = absurd listed
-listed_cause name released bytes (Err (stop.File (fault.Line number))) why old new listed is last =
-    let same : fault.Line number ≡ why = cc in
-    record {
-      absent = λ other. (let bad : fault.Line number ≡ fault.Absent = same ∙ other in absurd cc);
-      too_long = λ other. (let bad : fault.Line number ≡ fault.TooLong = same ∙ other in absurd cc);
-      failed = λ other. (let bad : fault.Line number ≡ fault.Failed = same ∙ other in absurd cc);
-      last = last;
-    }
-
--- the run where the bytes of the file were read
-pub run_ends : (name file : List ℕ) (read : ReadRelease) (bytes : Vec ℕ Global) (answer : Result (Vec ℕ Global) IntervalStop) (old mid new : ShelfState) → WhereTold old.files (λ fs. IsReadReleaseAnswer (released_of fs name) (Ok read)) → IsAcceptedRead read
-    → HasOnlyLooked output_limit old mid → IsFileRead file (Ok bytes) mid new → ((released : ReleasedFiles) → IsAcceptedAs released read → IsListedWith released bytes.items answer) → IsIntervalsRun name file answer old new
-run_ends name file read bytes answer old mid new accepted it first second listed = record {
-  told = λ fs told. listed_answers (released_of fs name) read (fs file) bytes.items answer (accepted fs told) (second.told fs (first.only_read.files ∙ told)) listed;
-  of_some = listed_some read bytes.items answer it listed;
-  refused = λ check is. listed_no_check name it.released bytes.items answer check old new (listed it.released it.accepted) is;
-  cause = λ why is. listed_cause file it.released bytes.items answer why old new (listed it.released it.accepted) is (λ fs told. second.last fs (first.only_read.files ∙ told));
-  shelf = look-on output_limit old mid new first second.shelf;
+-- a cause after the reading of the release
+cause_on : (name : List ℕ) (why : IntervalFault) (old mid new : ShelfState) → HasOnlyRead old mid → HasFileCause name why mid new → HasFileCause name why old new
+cause_on name why old mid new first cause = record {
+  absent = λ is. omega (arith, first.absences, cause.absent is);
+  too_long = cause.too_long;
+  failed = λ is. omega (arith, first.faults, cause.failed is);
+  last = λ fs told. cause.last fs (first.files ∙ told);
 }
 
--- ---- the bytes of the file
+-- the answer past the check
+told_past : (meant : Result ReleasedFiles Fault) (read : ReadRelease) (held : Option (List ℕ)) (answer : Result (Vec ℕ Global) IntervalFault) → IsReadReleaseAnswer meant (Ok read) → ((released : ReleasedFiles) → IsAcceptedAs released read → IsHeldAnswer released held answer)
+    → IsIntervalListingAnswer meant held (map_fault stop.Intervals answer)
+told_past (Ok released) read held (Ok listing) got answers = (got.accepted, answers released got)
+told_past (Ok released) read held (Err why) got answers = (got.accepted, answers released got)
+told_past (Err fault) read held answer got answers = absurd got
 
--- lines that stop the reading of ranges stop the listing
-pub lines_stop : (released : ReleasedFiles) (hidden bytes : List ℕ) (e : Stop ℕ) → hidden ≡ hidden_in released → ((number : ℕ) → e ≡ line.Fault number → IsNoIntervalFile hidden bytes number) → IsListedWith released bytes (Err (line_stop e))
-lines_stop released hidden bytes (line.Fault number) same none = subst (λ (cells : List ℕ). IsNoIntervalFile cells bytes number) same (none number refl)
-lines_stop released hidden bytes line.Memory same none = tt
+some_past : (answer : Result (Vec ℕ Global) IntervalFault) → IsSomeAcceptedAnswer answer → IsOfSome (map_fault stop.Intervals answer)
+some_past (Ok listing) it = it
+some_past (Err why) it = it
+
+-- it is no check's, and a refusal of the file is that of the file
+no_check : (name : List ℕ) (answer : Result (Vec ℕ Global) IntervalFault) (check : CheckStop) (old new : ShelfState) → map_fault stop.Intervals answer ≡ Err (stop.Stopped check) → IsReleasedRun name (Err check) old new
+no_check name (Ok listing) check old new is = absurd cc
+no_check name (Err why) check old new is = absurd cc
+
+own_fault : (answer : Result (Vec ℕ Global) IntervalFault) (why : IntervalFault) → map_fault stop.Intervals answer ≡ Err (stop.Intervals why) → answer ≡ Err why
+own_fault (Ok listing) why is = absurd cc
+own_fault (Err other) why is = (let same : other ≡ why = cc in ap Err same)
+
+-- the run where the release is accepted
+pub run_past : (name file : List ℕ) (read : ReadRelease) (answer : Result (Vec ℕ Global) IntervalFault) (old mid new : ShelfState) → WhereTold old.files (λ fs. IsReadReleaseAnswer (released_of fs name) (Ok read)) → IsAcceptedRead read → HasOnlyLooked output_limit old mid
+    → ((released : ReleasedFiles) → IsAcceptedAs released read → IsFileRun released file answer mid new) → IsIntervalsRun name file (map_fault stop.Intervals answer) old new
+run_past name file read answer old mid new accepted it first past =
+    let own = past it.released it.accepted in
+    record {
+      told = λ fs told. told_past (released_of fs name) read (fs file) answer (accepted fs told) (λ released got. (past released got).told fs (first.only_read.files ∙ told));
+      of_some = some_past answer (it.released, it.accepted.accepted, it.sound, own.of_some.0, own.of_some.1);
+      refused = λ check is. no_check name answer check old new is;
+      cause = λ why is. cause_on file why old mid new first.only_read (own.cause why (own_fault answer why is));
+      shelf = look-on output_limit old mid new first own.shelf;
+    }

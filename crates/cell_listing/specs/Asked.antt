@@ -5,17 +5,11 @@ use Rattle.std.specs.declared.alloc.Global.{Global}
 use Rattle.sdc_base.specs.Steps.{map_fault}
 use Rattle.office_io.specs.Shelves.{ShelfState}
 use Rattle.job_inputs.specs.declared.stop.InputStop.{InputStop}
-use Rattle.job_inputs.specs.declared.stop.InputStop.TheVariants as input
 use Rattle.job_check.specs.declared.stop.CheckStop.{CheckStop}
-use Rattle.job_check.specs.declared.stop.CheckStop.TheVariants as check
-use Rattle.cell_listing.specs.IntervalRuns.{IsIntervalsRun}
-use Rattle.cell_listing.specs.Runs.{IsListingRun, IsRelationsRun, IsReleasedRun}
-use Rattle.cell_listing.specs.declared.asked.AskStop.{AskStop}
-use Rattle.cell_listing.specs.declared.asked.AskStop.TheVariants as asked
-use Rattle.cell_listing.specs.declared.calls.ListStop.{ListStop}
-use Rattle.cell_listing.specs.declared.calls.ListStop.TheVariants as list
-use Rattle.cell_listing.specs.declared.interval_stop.IntervalStop.{IntervalStop}
-use Rattle.cell_listing.specs.declared.interval_stop.IntervalStop.TheVariants as interval
+use Rattle.cell_listing.specs.Calls.{inputs_stop}
+use Rattle.cell_listing.specs.Runs.{IsRelationsRun, IsReleasedRun}
+use Rattle.cell_listing.specs.declared.stop.ListingStop.{ListingStop}
+use Rattle.cell_listing.specs.declared.stop.ListingStop.TheVariants as stop
 
 -- the name of a job, of one byte or more, where this word stands behind it, and nothing else
 abbrev pub named_with : List ℕ → List (List ℕ) → Option (List ℕ)
@@ -42,40 +36,16 @@ asks_for_intervals name first second file =
     not (length name == 0) && (not (length file == 0)
     && (bytes_eq first (codes "--released") && bytes_eq second (codes "--intervals")))
 
--- why there is no listing of a job, as an answer to words
-abbrev pub asked_stop : ListStop → AskStop
-asked_stop list.Usage = asked.Usage
-asked_stop (list.Inputs input) = asked.Stopped (check.Inputs input)
-
--- why there is no listing of a release with its intervals, as an answer to words
-abbrev pub intervals_stop : IntervalStop → AskStop
-intervals_stop (interval.Release why) = asked.Stopped why
-intervals_stop (interval.File why) = asked.Intervals why
-intervals_stop interval.Memory = asked.Stopped (check.Inputs input.Memory)
-
--- the answer is that of a listing of the job of this name
-pub record IsCellsAnswer (name : List ℕ) (answer : Result (Vec ℕ Global) AskStop) (old new : ShelfState) : Type 0 where
-  pub listing : Result (Vec ℕ Global) ListStop
-  pub same : answer ≡ map_fault asked_stop listing
-  pub run : IsListingRun name listing old new
-
 -- the answer is that of a listing of the relations between the cells of the job of this name
-pub record IsRelationsAnswer (name : List ℕ) (answer : Result (Vec ℕ Global) AskStop) (old new : ShelfState)
+pub record IsRelationsAnswer (name : List ℕ) (answer : Result (Vec ℕ Global) ListingStop) (old new : ShelfState)
     : Type 0 where
   pub listing : Result (Vec ℕ Global) InputStop
-  pub same : answer ≡ map_fault (λ input. asked.Stopped (check.Inputs input)) listing
+  pub same : answer ≡ map_fault inputs_stop listing
   pub run : IsRelationsRun name listing old new
 
 -- the answer is that of a listing of the job with its release
-pub record IsReleasesAnswer (name : List ℕ) (answer : Result (Vec ℕ Global) AskStop) (old new : ShelfState)
+pub record IsReleasesAnswer (name : List ℕ) (answer : Result (Vec ℕ Global) ListingStop) (old new : ShelfState)
     : Type 0 where
   pub listing : Result (Vec ℕ Global) CheckStop
-  pub same : answer ≡ map_fault asked.Stopped listing
+  pub same : answer ≡ map_fault stop.Stopped listing
   pub run : IsReleasedRun name listing old new
-
--- the answer is that of a listing of the job with its release and this interval file
-pub record IsIntervalsAnswer (name file : List ℕ) (answer : Result (Vec ℕ Global) AskStop) (old new : ShelfState)
-    : Type 0 where
-  pub listing : Result (Vec ℕ Global) IntervalStop
-  pub same : answer ≡ map_fault intervals_stop listing
-  pub run : IsIntervalsRun name file listing old new

@@ -1,5 +1,5 @@
 -- What a listing answers over a shelf, and what it leaves of the shelf (own).
-use Rattle.std.specs.Prelude.{◌≡◌, ℕ, List, Result, Err, IfOk, Vec}
+use Rattle.std.specs.Prelude.{◌≡◌, ℕ, List, Result, Err, IfErr, IfOk, Vec}
 use Rattle.std.specs.declared.alloc.Global.{Global}
 use Rattle.sdc_base.specs.WhereTold.{WhereTold}
 use Rattle.office_io.specs.Shelves.{ShelfState}
@@ -14,20 +14,21 @@ use Rattle.job_check.specs.Reading.{ReleaseComesTo}
 use Rattle.job_check.specs.ReleaseFiles.{ReleasedFiles, released_of}
 use Rattle.job_check.specs.declared.stop.CheckStop.{CheckStop}
 use Rattle.job_check.specs.declared.stop.CheckStop.TheVariants as check
-use Rattle.cell_listing.specs.Calls.{HasComeToInputs, IsListingAnswer}
+use Rattle.cell_listing.specs.Calls.{HasComeToInputs, IsCellsStop, IsListingAnswer, inputs_stop}
 use Rattle.cell_listing.specs.Listings.{IsCellListing}
 use Rattle.cell_listing.specs.RelationListings.{IsRelationListing, ListsRelations}
 use Rattle.cell_listing.specs.Releases.{IsReleaseListingAnswer, IsListingOf}
-use Rattle.cell_listing.specs.declared.calls.ListStop.{ListStop}
-use Rattle.cell_listing.specs.declared.calls.ListStop.TheVariants as list
+use Rattle.cell_listing.specs.declared.stop.ListingStop.{ListingStop}
 
 -- A listing of the job of this name: its answer is what the told files come to, it comes to files in their order, and
 -- the shelf was only looked at.
-pub record IsListingRun (name : List ℕ) (answer : Result (Vec ℕ Global) ListStop) (old new : ShelfState) : Type 0 where
+pub record IsListingRun (name : List ℕ) (answer : Result (Vec ℕ Global) ListingStop) (old new : ShelfState)
+    : Type 0 where
+  pub stops : IfErr answer IsCellsStop
   pub told : WhereTold old.files (λ fs. IsListingAnswer (settled_of purpose.Release fs name) answer)
   pub came_to : WhereTold old.files (λ fs. HasComeToInputs name answer fs new)
   pub shelf : HasOnlyLooked limit old new
-  pub cause : (e : InputStop) → answer ≡ Err (list.Inputs e) → HasCause {X = Unit {0}} (Err e) old new
+  pub cause : (e : InputStop) → answer ≡ Err (inputs_stop e) → HasCause {X = Unit {0}} (Err e) old new
   pub listed : IfOk answer (λ bytes. (settled : SettledInputs) × IsCellListing settled bytes.items
       × AreSound settled.inputs)
 

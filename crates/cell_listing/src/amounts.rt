@@ -1,21 +1,27 @@
-ghost use Rattle.std.specs.Prelude.{◌≡◌, ◌≤◌, ◌^◌, decimal, IfOk, pos, neg_ℤ, ◌≤ℤ◌, unsigned_abs};
+ghost use Rattle.std.specs.Prelude.{◌≡◌, ◌≤◌, ◌^◌, ◌++◌, ◌∷◌, [], decimal, IfOk, OnOk, pos, neg_ℤ, ◌≤ℤ◌, unsigned_abs};
 ghost use Rattle.std.specs.Option.{ForSome};
 ghost use Rattle.sdc_base.specs.RuleLevels.{figures_of_facts};
 ghost use Rattle.sdc_base.specs.Truths.{IsTruth};
 ghost use Rattle.cell_listing.specs.Columns as spec;
 
+use crate::words::add_word;
 use cost_rule::CostKind;
 use plain_text::print_units;
 use sdc_base::{CellFacts, Items, Memory, Text};
 use std::alloc::Global;
 
-/// The text of an amount, as a release table shows it.
-pub(crate) fn amount_text(alloc: Global, amount: i128, decimals: u8) -> Result<Text, Memory>
+/// Puts an amount, as a release table shows it, behind the fields that are there.
+pub(crate) fn add_amount(
+    alloc: Global,
+    fields: &mut Items<Text>,
+    amount: i128,
+    decimals: u8,
+) -> Result<(), Memory>
     requires low { neg_ℤ (pos (2 ^ 120)) ≤ℤ amount }
     requires decimals { decimals ≤ 13 }
-    ensures text { IfOk result (λ text. text ≡ spec.amount_text decimals amount) }
+    ensures { OnOk result (fields.new ≡ fields.old ++ spec.amount_text decimals amount ∷ []) }
 {
-    print_units(alloc, size_of(amount), decimals)
+    fields.push(print_units(alloc, size_of(amount), decimals)?)
 }
 
 // An amount without its sign. No amount of a job is below 0.
@@ -28,15 +34,20 @@ fn size_of(amount: i128) -> i128
     if amount < 0 { -amount } else { amount }
 }
 
-/// The text of an upper bound, and an empty one where there is none.
-pub(crate) fn bound_text(alloc: Global, bound: Option<i128>, decimals: u8) -> Result<Text, Memory>
+/// Puts an upper bound behind the fields that are there, and an empty text where there is none.
+pub(crate) fn add_bound(
+    alloc: Global,
+    fields: &mut Items<Text>,
+    bound: Option<i128>,
+    decimals: u8,
+) -> Result<(), Memory>
     requires low { ForSome bound (λ amount. neg_ℤ (pos (2 ^ 120)) ≤ℤ amount) }
     requires decimals { decimals ≤ 13 }
-    ensures text { IfOk result (λ text. text ≡ spec.bound_text decimals bound) }
+    ensures { OnOk result (fields.new ≡ fields.old ++ spec.bound_text decimals bound ∷ []) }
 {
     match bound {
-        Some(amount) => amount_text(alloc, amount, decimals),
-        None => Ok(Text::new(Vec::new(alloc))),
+        Some(amount) => add_amount(alloc, fields, amount, decimals),
+        None => add_word(alloc, fields, b""),
     }
 }
 
@@ -51,13 +62,11 @@ pub(crate) fn figure_fields(
     ensures fields { IfOk result (λ fields. fields
         ≡ spec.figure_fields decimals (figures_of_facts facts.now)) }
 {
-    let largest = largest_of(facts);
-    let second = second_of(facts);
     let mut fields = Items::empty(alloc);
-    fields.push(amount_text(alloc, facts.truth, decimals)?)?;
-    fields.push(number_text(alloc, u64::from(facts.freq))?)?;
-    fields.push(amount_text(alloc, largest, decimals)?)?;
-    fields.push(amount_text(alloc, second, decimals)?)?;
+    add_amount(alloc, &mut fields, facts.truth, decimals)?;
+    add_number(alloc, &mut fields, u64::from(facts.freq))?;
+    add_amount(alloc, &mut fields, largest_of(facts), decimals)?;
+    add_amount(alloc, &mut fields, second_of(facts), decimals)?;
     Ok(fields)
 }
 
@@ -86,6 +95,13 @@ pub(crate) fn price_by(kind: CostKind, price: Option<u64>, facts: &CellFacts) ->
         Some(price) => price,
         None => kind.cost(facts),
     }
+}
+
+/// Puts a whole number behind the fields that are there.
+pub(crate) fn add_number(alloc: Global, fields: &mut Items<Text>, number: u64) -> Result<(), Memory>
+    ensures { OnOk result (fields.new ≡ fields.old ++ decimal number ∷ []) }
+{
+    fields.push(number_text(alloc, number)?)
 }
 
 /// The text of a whole number.

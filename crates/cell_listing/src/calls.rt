@@ -1,4 +1,4 @@
-ghost use Rattle.std.specs.Prelude.{◌≡◌, ◌↔◌, None, Err, IfOk, option_map};
+ghost use Rattle.std.specs.Prelude.{◌≡◌, ◌↔◌, None, Err, IfErr, IfOk, option_map};
 ghost use Rattle.sdc_base.specs.WhereTold.{WhereTold};
 ghost use Rattle.job_inputs.specs.ReadFiles.{limit};
 ghost use Rattle.job_inputs.specs.Reading.{HasCause, HasOnlyLooked};
@@ -10,30 +10,11 @@ ghost use Rattle.cell_listing.specs.Calls as spec;
 ghost use Rattle.cell_listing.specs.Listings.{IsCellListing};
 
 use crate::reading::list_job;
-use job_inputs::{InputStop, Purpose};
+use crate::stop::ListingStop;
+use job_inputs::Purpose;
 use office_io::Shelf;
 use sdc_base::Text;
 use std::alloc::Global;
-
-/// Why there is no listing.
-#[derive(Clone, Copy, Debug, PartialEq, Eq)]
-pub enum ListStop {
-    /// The words aren't the name of a job.
-    Usage,
-    /// The inputs of the job were not read to their end, or there was no memory.
-    Inputs(InputStop),
-}
-
-impl From<InputStop> for ListStop {
-    ghost use Rattle.std.specs.Prelude.{◌≡◌};
-    ghost use Rattle.cell_listing.specs.declared.calls.ListStop.TheVariants as stop;
-
-    ghost from_gives = { λ input e. e ≡ stop.Inputs input };
-
-    fn from(input: InputStop) -> Self {
-        ListStop::Inputs(input)
-    }
-}
 
 /// What the words ask for: with the name of a job alone, the bytes of its listing, from the shelf. Nothing is put.
 ///
@@ -48,8 +29,10 @@ pub fn list_cells<S: Shelf>(
     alloc: Global,
     words: &[Text],
     shelf: &mut S,
-) -> Result<Vec<u8>, ListStop>
-    ensures usage { (result ≡ Err ListStop.Usage) ↔ (spec.job_named words.now ≡ None) }
+) -> Result<Vec<u8>, ListingStop>
+    ensures usage { (result ≡ Err ListingStop.Usage) ↔ (spec.job_named words.now ≡ None) }
+    // Nothing else stops it but the inputs.
+    ensures stops { IfErr result spec.IsCellsStop }
     // The answer is what the told files come to.
     ensures told { WhereTold (spec.job_named words.now) (λ name. WhereTold (S.state shelf.old).files
         (λ fs. IsListingAnswer (settled_of Purpose.Release fs name) result)) }
@@ -58,14 +41,14 @@ pub fn list_cells<S: Shelf>(
         (λ fs. HasComeToInputs name result fs (S.state shelf.new))) }
     // It was only read from, and no more than was wanted.
     ensures shelf { HasOnlyLooked limit (S.state shelf.old) (S.state shelf.new) }
-    ensures cause { (e : AnyStop) → result ≡ Err (ListStop.Inputs e)
+    ensures cause { (e : AnyStop) → result ≡ Err (spec.inputs_stop e)
         → HasCause {X = Unit {0}} (Err e) (S.state shelf.old) (S.state shelf.new) }
     // Of a shelf that tells nothing too.
     ensures listed { IfOk result (λ bytes. (settled : SettledInputs) × IsCellListing settled bytes.items
         × AreSound settled.inputs) }
 {
     let Some(name) = job_named(words) else {
-        return Err(ListStop::Usage);
+        return Err(ListingStop::Usage);
     };
     let bytes = list_job(alloc, shelf, name)?;
     Ok(bytes)

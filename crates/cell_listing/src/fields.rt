@@ -8,15 +8,26 @@ ghost use Rattle.job_inputs.specs.SoundJobs.{IsSoundJob};
 ghost use Rattle.cell_listing.specs.Givens.{listed_as, IsGiven};
 ghost use Rattle.cell_listing.specs.Columns as spec;
 
-use crate::amounts::{amount_text, bound_text, figure_fields, number_text, price_by};
-use crate::reasons::{kind_word, reasons};
-use crate::tables_having::tables_having;
-use crate::words::{add_all, add_word, spaced};
+use crate::amounts::{add_amount, add_bound, add_number, figure_fields, price_by};
+use crate::reasons::{add_reasons, kind_word};
+use crate::tables_having::add_tables;
+use crate::words::{add_all, add_word, add_words};
 use job_inputs::DescribedJob;
 use linked_tables::Book;
 use rda_meta::Variable;
 use sdc_base::{Cell, CellFacts, Items, Memory, Place, Text};
 use std::alloc::Global;
+
+// The columns before the variables.
+const PLACE_NAMES: &[&[u8]] = &[b"cell", b"tables"];
+
+// The columns of what the records make of a cell.
+const FIGURE_NAMES: &[&[u8]] = &[b"value", b"records", b"largest", b"second"];
+
+// The columns of what a cell is to its protection.
+const STANDING_NAMES: &[&[u8]] = &[
+    b"status", b"rules", b"up", b"down", b"price", b"low", b"high",
+];
 
 /// A cell of a job: its number, its name, its facts, and what it is to its protection.
 #[derive(Clone, Copy)]
@@ -32,47 +43,11 @@ pub(crate) fn column_names(alloc: Global, described: &DescribedJob) -> Result<It
     ensures at_least_two { IfOk result (λ names. 1 < length names) }
     ensures names { IfOk result (λ names. names ≡ spec.column_names described.now) }
 {
-    let mut names = place_names(alloc)?;
+    let mut names = Items::empty(alloc);
+    add_words(alloc, &mut names, PLACE_NAMES)?;
     add_all(&mut names, variable_names(alloc, described)?)?;
-    add_all(&mut names, figure_names(alloc)?)?;
-    add_all(&mut names, standing_names(alloc)?)?;
-    Ok(names)
-}
-
-// The columns before the variables.
-fn place_names(alloc: Global) -> Result<Items<Text>, Memory>
-    ensures { IfOk result (λ names. names ≡ spec.place_names) }
-{
-    let mut names = Items::empty(alloc);
-    add_word(alloc, &mut names, b"cell")?;
-    add_word(alloc, &mut names, b"tables")?;
-    Ok(names)
-}
-
-// The columns of what the records make of a cell.
-fn figure_names(alloc: Global) -> Result<Items<Text>, Memory>
-    ensures { IfOk result (λ names. names ≡ spec.figure_names) }
-{
-    let mut names = Items::empty(alloc);
-    add_word(alloc, &mut names, b"value")?;
-    add_word(alloc, &mut names, b"records")?;
-    add_word(alloc, &mut names, b"largest")?;
-    add_word(alloc, &mut names, b"second")?;
-    Ok(names)
-}
-
-// The columns of what a cell is to its protection.
-fn standing_names(alloc: Global) -> Result<Items<Text>, Memory>
-    ensures { IfOk result (λ names. names ≡ spec.standing_names) }
-{
-    let mut names = Items::empty(alloc);
-    add_word(alloc, &mut names, b"status")?;
-    add_word(alloc, &mut names, b"rules")?;
-    add_word(alloc, &mut names, b"up")?;
-    add_word(alloc, &mut names, b"down")?;
-    add_word(alloc, &mut names, b"price")?;
-    add_word(alloc, &mut names, b"low")?;
-    add_word(alloc, &mut names, b"high")?;
+    add_words(alloc, &mut names, FIGURE_NAMES)?;
+    add_words(alloc, &mut names, STANDING_NAMES)?;
     Ok(names)
 }
 
@@ -127,10 +102,9 @@ fn place_fields(
 ) -> Result<Items<Text>, Memory>
     ensures { IfOk result (λ fields. fields ≡ spec.place_fields tables.now (listed_as given.now)) }
 {
-    let having = tables_having(alloc, tables, given.name)?;
     let mut fields = Items::empty(alloc);
-    fields.push(number_text(alloc, u64::from(given.number))?)?;
-    fields.push(spaced(alloc, having.as_slice())?)?;
+    add_number(alloc, &mut fields, u64::from(given.number))?;
+    add_tables(alloc, &mut fields, tables, given.name)?;
     Ok(fields)
 }
 
@@ -172,15 +146,19 @@ fn standing_fields(
     let ListingColumns { facts, cell, .. } = *given;
     let decimals = described.bound.decimals;
     let job = &described.job;
-    let why = reasons(alloc, job.rules.list.as_slice(), cell.kind, facts)?;
-    let price = price_by(job.cost, cell.price, facts);
     let mut fields = Items::empty(alloc);
     add_word(alloc, &mut fields, kind_word(cell.kind))?;
-    fields.push(spaced(alloc, why.as_slice())?)?;
-    fields.push(amount_text(alloc, cell.up, decimals)?)?;
-    fields.push(amount_text(alloc, cell.down, decimals)?)?;
-    fields.push(number_text(alloc, price)?)?;
-    fields.push(amount_text(alloc, cell.low, decimals)?)?;
-    fields.push(bound_text(alloc, cell.high, decimals)?)?;
+    add_reasons(
+        alloc,
+        &mut fields,
+        job.rules.list.as_slice(),
+        cell.kind,
+        facts,
+    )?;
+    add_amount(alloc, &mut fields, cell.up, decimals)?;
+    add_amount(alloc, &mut fields, cell.down, decimals)?;
+    add_number(alloc, &mut fields, price_by(job.cost, cell.price, facts))?;
+    add_amount(alloc, &mut fields, cell.low, decimals)?;
+    add_bound(alloc, &mut fields, cell.high, decimals)?;
     Ok(fields)
 }

@@ -14,12 +14,15 @@ use crate::cell_range::CellRange;
 use crate::csv_line::{bytes_of, empty_writer, write_line};
 use crate::fields::column_names;
 use crate::released_cells::{ReleasedCells, released_cells};
-use crate::released_listing::{outcome_names, released_fields};
-use crate::words::{add_all, add_word};
+use crate::released_listing::{OUTCOME_NAMES, released_fields};
+use crate::words::{add_word, add_words};
 use csv::Writer;
 use job_check::ReadRelease;
 use sdc_base::{Items, Memory, Text};
 use std::alloc::Global;
+
+// The columns of an interval.
+const END_NAMES: &[&[u8]] = &[b"interval_low", b"interval_high"];
 
 /// The bytes of the listing of a release that is accepted, as
 /// [`released_listing_for`](crate::released_listing_for) gives them, with two columns more: both ends of a hidden cell's
@@ -58,18 +61,9 @@ fn write_names(
         (line_text ((columns.column_names read.now.job.described ++ outcomes.outcome_names) ++ spec.end_names))) }
 {
     let mut names = column_names(alloc, &read.job.described)?;
-    add_all(&mut names, outcome_names(alloc)?)?;
-    add_end_names(alloc, &mut names)?;
+    add_words(alloc, &mut names, OUTCOME_NAMES)?;
+    add_words(alloc, &mut names, END_NAMES)?;
     write_line(writer, names.as_slice())
-}
-
-// Puts the columns of an interval behind the names that are there.
-fn add_end_names(alloc: Global, names: &mut Items<Text>) -> Result<(), Memory>
-    ensures { OnOk result (names.new ≡ names.old ++ spec.end_names) }
-{
-    add_word(alloc, names, b"interval_low")?;
-    add_word(alloc, names, b"interval_high")?;
-    Ok(())
 }
 
 // Writes the lines of the cells.

@@ -2,15 +2,35 @@ ghost use Rattle.std.specs.Prelude.{◌≡◌, ◌≤◌, ◌++◌, ◌∷◌, [
 ghost use Rattle.sdc_base.specs.RuleLevels.{figures_of_facts, keep_of, is_sensitive_by};
 ghost use Rattle.sdc_base.specs.Truths.{IsTruth};
 ghost use Rattle.primary_rules.specs.Ranges.{IsInRange};
+ghost use Rattle.cell_listing.specs.Columns.{spaced};
 ghost use Rattle.cell_listing.specs.Reasons as spec;
 
-use crate::words::add_word;
+use crate::words::{add_spaced, add_word};
 use primary_rules::level;
 use sdc_base::{CellFacts, Few, Items, Kind, Memory, Rule, Rules, Text};
 use std::alloc::Global;
 
-/// What names a cell: the words of rules, or `u` where it is primary though no rule names it.
-pub(crate) fn reasons(
+/// Puts what names a cell behind the fields that are there: the words of rules, or `u` where it is primary though no rule
+/// names it.
+pub(crate) fn add_reasons(
+    alloc: Global,
+    fields: &mut Items<Text>,
+    rules: &[Rule],
+    kind: Kind,
+    facts: &CellFacts,
+) -> Result<(), Memory>
+    requires in_range { All IsInRange rules.now }
+    requires truth { IsTruth facts.now.truth }
+    requires kept { All (λ one. keep_of (one ∷ []) ≤ facts.now.tops.keep) rules.now }
+    ensures { OnOk result (fields.new
+        ≡ fields.old ++ spaced (spec.reasons rules.now kind (figures_of_facts facts.now)) ∷ []) }
+{
+    let why = reasons(alloc, rules, kind, facts)?;
+    add_spaced(alloc, fields, why.as_slice())
+}
+
+// What names a cell, word by word.
+fn reasons(
     alloc: Global,
     rules: &[Rule],
     kind: Kind,

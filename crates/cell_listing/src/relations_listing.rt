@@ -1,4 +1,4 @@
-ghost use Rattle.std.specs.Prelude.{◌≡◌, ◌<◌, ◌++◌, [], length, map, flat_map, decimal, slice_index_or, IfOk, OnOk};
+ghost use Rattle.std.specs.Prelude.{◌≡◌, ◌<◌, ◌++◌, ◌∷◌, [], length, map, flat_map, decimal, slice_index_or, IfOk, OnOk};
 ghost use Rattle.sdc_base.specs.TableText.{line_text};
 ghost use Rattle.release_writer.specs.Lines.{IsReadyWriter, AppendsText};
 ghost use Rattle.job_inputs.specs.ClassifiedJobs.{IsSettledOf, SettledInputs};
@@ -6,15 +6,18 @@ ghost use Rattle.cell_listing.specs.Columns.{spaced};
 ghost use Rattle.cell_listing.specs.RelationListings.{relation_line, IsRelationListing, IsRelationText};
 ghost use Rattle.cell_listing.specs.RelationListings as spec;
 
-use crate::amounts::number_text;
+use crate::amounts::add_number;
 use crate::csv_line::{bytes_of, empty_writer, write_line};
 use crate::fields::variable_names;
 use crate::listed_relations::{ListedRelation, listed_relations};
-use crate::words::{add_word, spaced};
+use crate::words::{add_spaced, add_word, add_words};
 use csv::Writer;
 use job_inputs::ClassifiedJob;
 use sdc_base::{Items, Memory, Text};
 use std::alloc::Global;
+
+// The names of the columns.
+const RELATION_NAMES: &[&[u8]] = &[b"relation", b"total", b"variable", b"parts"];
 
 /// The bytes of the listing of the relations between a job's cells: a line of the columns' names, and then a line for
 /// each relation, in the order of their numbers.
@@ -45,20 +48,9 @@ fn write_names(alloc: Global, writer: &mut Writer<Vec<u8>>) -> Result<(), Memory
     ensures ready { OnOk result (IsReadyWriter writer.new) }
     ensures text { OnOk result (AppendsText writer.old writer.new (line_text spec.relation_names)) }
 {
-    let names = relation_names(alloc)?;
-    write_line(writer, names.as_slice())
-}
-
-// The names of the columns.
-fn relation_names(alloc: Global) -> Result<Items<Text>, Memory>
-    ensures { IfOk result (λ names. names ≡ spec.relation_names) }
-{
     let mut names = Items::empty(alloc);
-    add_word(alloc, &mut names, b"relation")?;
-    add_word(alloc, &mut names, b"total")?;
-    add_word(alloc, &mut names, b"variable")?;
-    add_word(alloc, &mut names, b"parts")?;
-    Ok(names)
+    add_words(alloc, &mut names, RELATION_NAMES)?;
+    write_line(writer, names.as_slice())
 }
 
 // Writes the lines of relations.
@@ -88,10 +80,10 @@ fn relation_fields(
     ensures { IfOk result (λ fields. fields ≡ spec.relation_fields names.now relation.now) }
 {
     let mut fields = Items::empty(alloc);
-    fields.push(number_text(alloc, relation.number)?)?;
-    fields.push(number_text(alloc, u64::from(relation.total))?)?;
+    add_number(alloc, &mut fields, relation.number)?;
+    add_number(alloc, &mut fields, u64::from(relation.total))?;
     add_word(alloc, &mut fields, name_at(names, relation.variable))?;
-    fields.push(numbers_text(alloc, relation.parts.as_slice())?)?;
+    add_numbers(alloc, &mut fields, relation.parts.as_slice())?;
     Ok(fields)
 }
 
@@ -105,13 +97,13 @@ fn name_at(names: &[Text], place: u32) -> &[u8]
     }
 }
 
-// Numbers with a blank between them.
-fn numbers_text(alloc: Global, numbers: &[u32]) -> Result<Text, Memory>
-    ensures { IfOk result (λ text. text ≡ spaced (map decimal numbers.now)) }
+// Adds numbers with a blank between them, as one field.
+fn add_numbers(alloc: Global, fields: &mut Items<Text>, numbers: &[u32]) -> Result<(), Memory>
+    ensures { OnOk result (fields.new ≡ fields.old ++ spaced (map decimal numbers.now) ∷ []) }
 {
     let mut words = Items::empty(alloc);
     'numbers: for number in numbers {
-        words.push(number_text(alloc, u64::from(*number))?)?;
+        add_number(alloc, &mut words, u64::from(*number))?;
     }
-    spaced(alloc, words.as_slice())
+    add_spaced(alloc, fields, words.as_slice())
 }

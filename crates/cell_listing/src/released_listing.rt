@@ -1,4 +1,4 @@
-ghost use Rattle.std.specs.Prelude.{◌≡◌, ◌<◌, ◌++◌, ◌≤◌, IfOk, OnOk, length};
+ghost use Rattle.std.specs.Prelude.{◌≡◌, ◌<◌, ◌++◌, ◌≤◌, ◌∷◌, [], IfOk, OnOk, length};
 ghost use Rattle.sdc_base.specs.TableText.{line_text};
 ghost use Rattle.release_writer.specs.Lines.{IsReadyWriter, AppendsText};
 ghost use Rattle.job_check.specs.Accepted.{IsAcceptedAs};
@@ -9,17 +9,20 @@ ghost use Rattle.cell_listing.specs.ReleasedCells.{amounts_in, released_lines, A
 ghost use Rattle.cell_listing.specs.ReleasedListings as spec;
 ghost use Rattle.cell_listing.specs.Releases.{IsListingOf};
 
-use crate::amounts::amount_text;
+use crate::amounts::add_amount;
 use crate::csv_line::{bytes_of, empty_writer, write_line};
 use crate::fields::column_names;
 use crate::listing::fields_at;
 use crate::outcome::{Origin, Outcome};
 use crate::released_cells::{ReleasedCells, outcome_at, released_cells};
-use crate::words::{add_all, add_word};
+use crate::words::{add_all, add_word, add_words};
 use csv::Writer;
 use job_check::ReadRelease;
 use sdc_base::{Items, Memory, Text};
 use std::alloc::Global;
+
+/// The columns of what a release made of a cell.
+pub(crate) const OUTCOME_NAMES: &[&[u8]] = &[b"release", b"origin"];
 
 /// The bytes of the listing of the cells of a release that is accepted: the lines of
 /// [`listing_for`](crate::listing_for), each with what the release made of the cell, and by what it came to be hidden.
@@ -58,18 +61,8 @@ fn write_names(
         (line_text (columns.column_names read.now.job.described ++ spec.outcome_names))) }
 {
     let mut names = column_names(alloc, &read.job.described)?;
-    add_all(&mut names, outcome_names(alloc)?)?;
+    add_words(alloc, &mut names, OUTCOME_NAMES)?;
     write_line(writer, names.as_slice())
-}
-
-/// The columns of what a release made of a cell.
-pub(crate) fn outcome_names(alloc: Global) -> Result<Items<Text>, Memory>
-    ensures { IfOk result (λ names. names ≡ spec.outcome_names) }
-{
-    let mut names = Items::empty(alloc);
-    add_word(alloc, &mut names, b"release")?;
-    add_word(alloc, &mut names, b"origin")?;
-    Ok(names)
 }
 
 // Writes the lines of the cells.
@@ -122,21 +115,26 @@ fn outcome_fields(alloc: Global, outcome: Outcome, decimals: u8) -> Result<Items
     ensures { IfOk result (λ fields. fields ≡ spec.outcome_fields decimals outcome) }
 {
     let mut fields = Items::empty(alloc);
-    fields.push(outcome_text(alloc, outcome, decimals)?)?;
+    add_outcome(alloc, &mut fields, outcome, decimals)?;
     add_word(alloc, &mut fields, origin_text(outcome))?;
     Ok(fields)
 }
 
-// What a release made of a cell, by a word, or by the amount that is shown.
-fn outcome_text(alloc: Global, outcome: Outcome, decimals: u8) -> Result<Text, Memory>
+// Adds what a release made of a cell, by a word, or by the amount that is shown.
+fn add_outcome(
+    alloc: Global,
+    fields: &mut Items<Text>,
+    outcome: Outcome,
+    decimals: u8,
+) -> Result<(), Memory>
     requires printable { IsPrintable outcome }
     requires decimals { decimals ≤ 13 }
-    ensures { IfOk result (λ text. text ≡ spec.outcome_text decimals outcome) }
+    ensures { OnOk result (fields.new ≡ fields.old ++ spec.outcome_text decimals outcome ∷ []) }
 {
     match outcome {
-        Outcome::Shown => Ok(Text::from_slice(alloc, b"shown")?),
-        Outcome::Hidden(_) => Ok(Text::from_slice(alloc, b"hidden")?),
-        Outcome::Rounded(amount) => amount_text(alloc, amount, decimals),
+        Outcome::Shown => add_word(alloc, fields, b"shown"),
+        Outcome::Hidden(_) => add_word(alloc, fields, b"hidden"),
+        Outcome::Rounded(amount) => add_amount(alloc, fields, amount, decimals),
     }
 }
 

@@ -3,16 +3,26 @@ ghost use Rattle.sdc_base.specs.Cells as cells;
 ghost use Rattle.cell_listing.specs.Columns.{having_from};
 ghost use Rattle.cell_listing.specs.Columns as spec;
 
-use crate::amounts::number_text;
+use crate::amounts::add_number;
+use crate::words::add_spaced;
 use sdc_base::{Items, Memory, Place, Text};
 use std::alloc::Global;
 
-/// The numbers of the tables that have the cell of this name, from 1 and ascending.
-pub(crate) fn tables_having(
+/// Puts the numbers of the tables that have the cell of this name, from 1 and ascending, behind the fields that are there.
+pub(crate) fn add_tables(
     alloc: Global,
+    fields: &mut Items<Text>,
     tables: &[Place],
     name: &[u32],
-) -> Result<Items<Text>, Memory>
+) -> Result<(), Memory>
+    ensures { OnOk result (fields.new ≡ fields.old ++ spec.spaced (having_from 1 tables.now name.now) ∷ []) }
+{
+    let having = tables_having(alloc, tables, name)?;
+    add_spaced(alloc, fields, having.as_slice())
+}
+
+// The numbers of the tables that have the cell of this name, from 1 and ascending.
+fn tables_having(alloc: Global, tables: &[Place], name: &[u32]) -> Result<Items<Text>, Memory>
     ensures { IfOk result (λ words. words ≡ having_from 1 tables.now name.now) }
 {
     let mut words = Items::empty(alloc);
@@ -28,7 +38,7 @@ fn add_table(alloc: Global, number: u64, has: bool, words: &mut Items<Text>) -> 
     ensures { OnOk result (words.new ≡ words.old ++ (if has then decimal number ∷ [] else [])) }
 {
     if has {
-        words.push(number_text(alloc, number)?)?;
+        add_number(alloc, words, number)?;
     }
     Ok(())
 }

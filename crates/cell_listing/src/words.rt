@@ -1,12 +1,23 @@
-ghost use Rattle.std.specs.Prelude.{◌≡◌, ◌++◌, ◌∷◌, [], IfOk, OnOk};
+ghost use Rattle.std.specs.Prelude.{◌≡◌, ◌++◌, ◌∷◌, [], map, IfOk, OnOk};
 ghost use Rattle.std.specs.List.{join_with_byte};
 ghost use Rattle.cell_listing.specs.Columns as spec;
 
 use sdc_base::{Items, Memory, Text};
 use std::alloc::Global;
 
-/// The words with a blank between them.
-pub(crate) fn spaced(alloc: Global, words: &[Text]) -> Result<Text, Memory>
+/// Puts the words, with a blank between them, behind the fields that are there, as one field.
+pub(crate) fn add_spaced(
+    alloc: Global,
+    fields: &mut Items<Text>,
+    words: &[Text],
+) -> Result<(), Memory>
+    ensures { OnOk result (fields.new ≡ fields.old ++ spec.spaced words.now ∷ []) }
+{
+    fields.push(spaced(alloc, words)?)
+}
+
+// The words with a blank between them.
+fn spaced(alloc: Global, words: &[Text]) -> Result<Text, Memory>
     ensures { IfOk result (λ text. text ≡ spec.spaced words.now) }
 {
     let mut text = Vec::new(alloc);
@@ -38,6 +49,20 @@ pub(crate) fn add_all(fields: &mut Items<Text>, more: Items<Text>) -> Result<(),
 {
     'fields: for field in more.into_vec() {
         fields.push(field)?;
+    }
+    Ok(())
+}
+
+/// Puts words behind the fields that are there.
+pub(crate) fn add_words(
+    alloc: Global,
+    fields: &mut Items<Text>,
+    words: &[&[u8]],
+) -> Result<(), Memory>
+    ensures { OnOk result (fields.new ≡ fields.old ++ map (λ word. word.now) words.now) }
+{
+    'words: for word in words {
+        add_word(alloc, fields, word)?;
     }
     Ok(())
 }

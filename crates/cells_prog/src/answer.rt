@@ -1,13 +1,13 @@
 ghost use Rattle.std.specs.Prelude.{◌≡◌, Err, IfOk};
 ghost use Rattle.std.specs.Process.{exit_status};
-ghost use Rattle.cell_listing.specs.declared.asked.AskStop.{AskStop as AnyStop};
+ghost use Rattle.cell_listing.specs.declared.stop.ListingStop.{ListingStop as AnyStop};
 ghost use Rattle.job_run.specs.ReportText.{status_of};
 ghost use Rattle.job_run.specs.declared.report.Report.TheVariants as report;
 ghost use Rattle.cells_prog.specs.Endings.{IsWrittenBy, interval_status, status_for};
 ghost use Rattle.cells_prog.specs.Endings as spec;
 
 use crate::output::Output;
-use cell_listing::{AskStop, IntervalFault};
+use cell_listing::{IntervalFault, ListingStop};
 use job_check::CheckStop;
 use job_inputs::{Fault, InputStop};
 use job_run::{FileRef, Report, report_text};
@@ -27,7 +27,7 @@ pub fn ended_by<R: Print + Eprint, O: Output>(
     rt: &R,
     output: &mut O,
     alloc: Global,
-    answer: Result<Vec<u8>, AskStop>,
+    answer: Result<Vec<u8>, ListingStop>,
 ) -> ExitCode
     ensures stopped { (stop : AnyStop) → answer ≡ Err stop → exit_status result ≡ status_for stop }
     ensures none_written { (stop : AnyStop) → answer ≡ Err stop → O.state output.new ≡ O.state output.old }
@@ -58,20 +58,21 @@ fn written_by<R: Eprint, O: Output>(rt: &R, output: &mut O, alloc: Global, bytes
 }
 
 // Says why there is no listing.
-fn stopped_by<R: Print + Eprint>(rt: &R, alloc: Global, stop: AskStop) -> ExitCode
+fn stopped_by<R: Print + Eprint>(rt: &R, alloc: Global, stop: ListingStop) -> ExitCode
     ensures { exit_status result ≡ status_for stop }
 {
     match stop {
-        AskStop::Usage => {
+        ListingStop::Usage => {
             let _ = rt.write_all(USAGE);
             ExitCode::from(Report::Usage.status())
         }
-        AskStop::Stopped(check) => exit_code_for(rt, alloc, &checked_report(check)),
-        AskStop::Intervals(fault) => stopped_by_intervals(rt, alloc, fault),
+        ListingStop::Stopped(check) => exit_code_for(rt, alloc, &checked_report(check)),
+        ListingStop::Intervals(fault) => stopped_by_intervals(rt, alloc, fault),
     }
 }
 
-// Says why an interval file isn't taken: in argus's words for a file that was put, or by the number of the line.
+// Says why an interval file isn't taken: in argus's words for a file that was put and for want of memory, or by the number
+// of the line.
 fn stopped_by_intervals<R: Eprint>(rt: &R, alloc: Global, fault: IntervalFault) -> ExitCode
     ensures { exit_status result ≡ interval_status fault }
 {
@@ -83,6 +84,7 @@ fn stopped_by_intervals<R: Eprint>(rt: &R, alloc: Global, fault: IntervalFault) 
             let _ = eprint!(rt; "refused: intervals line {number}\n");
             ExitCode::from(2)
         }
+        IntervalFault::Memory => exit_code_for(rt, alloc, &Report::Memory),
     }
 }
 

@@ -1,5 +1,5 @@
 use crate::listed_tests::texts_of;
-use cell_listing::{AskStop, IntervalFault, list_asked, list_relations, relations_listing_for};
+use cell_listing::{IntervalFault, ListingStop, list_asked, list_relations, relations_listing_for};
 use job_check::CheckStop;
 use job_inputs::{Fault, FileRef, InputStop, Purpose, read_settled};
 use office_io::MemoryShelf;
@@ -135,7 +135,7 @@ fn answer(
     asked: &[&[u8]],
     files: &[File],
     name: &[u8],
-) -> Result<Result<Vec<u8>, AskStop>, Memory> {
+) -> Result<Result<Vec<u8>, ListingStop>, Memory> {
     let words = texts_of(alloc, asked)?;
     let held = held_without(alloc, files, name)?;
     let mut shelf = MemoryShelf::new(held, Vec::new(alloc), 7);
@@ -157,24 +157,24 @@ fn listings(rt: HostRuntime) -> Result<(), Fail> {
 }
 
 // Words, the file of the two-way table that isn't there, and why there is no listing.
-const STOPS: [(&[&[u8]], &[u8], AskStop); 3] = [
-    (&[], b"", AskStop::Usage),
+const STOPS: [(&[&[u8]], &[u8], ListingStop); 3] = [
+    (&[], b"", ListingStop::Usage),
     (
         INTERVALS,
         b"t.cert",
-        AskStop::Stopped(CheckStop::Inputs(InputStop::Refused(Fault::Absent(
+        ListingStop::Stopped(CheckStop::Inputs(InputStop::Refused(Fault::Absent(
             FileRef::Certificate,
         )))),
     ),
     (
         &[b"r.job", b"--released", b"--intervals", b"none"],
         b"",
-        AskStop::Intervals(IntervalFault::Absent),
+        ListingStop::Intervals(IntervalFault::Absent),
     ),
 ];
 
 // Why there is no listing of the two-way table without the file of this name.
-fn stop_of(alloc: Global, asked: &[&[u8]], name: &[u8]) -> Result<Option<AskStop>, Memory> {
+fn stop_of(alloc: Global, asked: &[&[u8]], name: &[u8]) -> Result<Option<ListingStop>, Memory> {
     let said = answer(alloc, asked, TWO_WAY, name)?;
     Ok(said.err())
 }
@@ -188,7 +188,7 @@ fn stops(rt: HostRuntime) -> Result<(), Fail> {
 }
 
 // Why there is no listing with intervals where the call of this number fails, on a shelf that gives each file by one read.
-fn stop_at(alloc: Global, call: u64) -> Result<Option<AskStop>, Memory> {
+fn stop_at(alloc: Global, call: u64) -> Result<Option<ListingStop>, Memory> {
     let words = texts_of(alloc, INTERVALS)?;
     let held = held_without(alloc, TWO_WAY, b"")?;
     let mut failing = Vec::new(alloc);
@@ -201,14 +201,14 @@ fn stop_at(alloc: Global, call: u64) -> Result<Option<AskStop>, Memory> {
 // and one that gives none.
 #[test]
 fn intervals_unread(rt: HostRuntime) -> Result<(), Fail> {
-    let failed = Some(AskStop::Intervals(IntervalFault::Failed));
+    let failed = Some(ListingStop::Intervals(IntervalFault::Failed));
     for call in 16..19 {
         assert_eq!(rt; stop_at(rt.alloc(), call)?, failed);
     }
     assert!(rt;
         matches!(
             stop_at(rt.alloc(), 15)?,
-            Some(AskStop::Stopped(CheckStop::Inputs(InputStop::ReadFault(_))))
+            Some(ListingStop::Stopped(CheckStop::Inputs(InputStop::ReadFault(_))))
         )
     );
     assert_eq!(rt; stop_at(rt.alloc(), 19)?, None);
