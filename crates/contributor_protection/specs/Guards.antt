@@ -1,8 +1,10 @@
 -- What guarding a protected hidden set against contributors that alone make up cells comes to (own).
-use Rattle.std.specs.Prelude.{◌≡◌, ℕ, List, length, Option, Result, Ok, Err}
+use Rattle.std.specs.Prelude.{◌≡◌, ◌≤◌, ◌<◌, ◌^◌, ℕ, List, length, All, Option, Result, Ok, Err}
 use Rattle.sdc_base.specs.declared.method.Method.{Method}
 use Rattle.sdc_base.specs.declared.rows.Row.{Row}
 use Rattle.sdc_base.specs.declared.trail.PlanStep.{PlanStep}
+use Rattle.apriori.specs.CellLevels.{HasLevelsInRange}
+use Rattle.cost_rule.specs.Costs.{AreCosted}
 use Rattle.cost_rule.specs.declared.kind.CostKind.{CostKind}
 use Rattle.linked_tables.specs.BookCells.{cells}
 use Rattle.linked_tables.specs.BookViews.{BookView}
@@ -11,7 +13,7 @@ use Rattle.repair.specs.HidingOrder.{Case, protected_case, prices_of}
 use Rattle.repair.specs.declared.stopped.Stopped.{Stopped}
 use Rattle.certificate.specs.ExtraTexts.{IsExtraSpellable}
 use Rattle.certificate.specs.declared.certificate.Certificate.{Certificate}
-use Rattle.attackers.specs.Alone.{AreSoles}
+use Rattle.attackers.specs.Alone.{AreSoles, TellFrequencies}
 use Rattle.attackers.specs.AttackOrder.{attacks_of}
 use Rattle.sdc_base.specs.HiddenSets.{hide_cells}
 use Rattle.attackers.specs.ExtraFaults.{extra_fault}
@@ -41,6 +43,20 @@ pub record IsCertified (c : Case) (protected : HiddenSet) (certificate : Certifi
   pub method : Method
   pub steps : List PlanStep
   pub protects : IsProtectedWith c prices method steps protected certificate
+
+-- Protected cells can be guarded: there is a cell for each cell of the system, of the tables, and for each mark; the
+-- marks' costs can be asked about, and they tell how many of the records, which have numbers of 32 bits, fall in each
+-- cell; levels are within the limits of a job; the certificate is that of the hidden set; and a question may take a step.
+pub record CanBeGuarded (protected : ProtectedCells) (certificate : Certificate) (limit : ℕ) : Type 0 where
+  pub one_each : length protected.cells.now ≡ protected.system.now.cells
+  pub named : length protected.cells.now ≡ length (cells protected.book.now)
+  pub marks : length protected.cells.now ≡ length protected.book.now.marks
+  pub costed : All (λ mark. AreCosted mark.facts) protected.book.now.marks
+  pub levels : All HasLevelsInRange protected.cells.now
+  pub told : TellFrequencies protected.book.now protected.rows.now
+  pub fewer_than_2_32 : length protected.rows.now < 2 ^ 32
+  pub certified : IsCertified (case_of protected) protected.hidden_set.now certificate
+  pub some_steps : 1 ≤ limit
 
 -- A protected hidden set is guarded: beside it and its worlds the extra cells have no fault, each is needed, and with
 -- them it guards against every contributor, as the full set does; they are what is left of cells that came in turn; the

@@ -1,15 +1,12 @@
-ghost use Rattle.std.specs.Prelude.{◌≡◌, ◌^◌, ◌<◌, ◌≤◌, List, Bool, length, All, IfOk, IfErr};
-ghost use Rattle.apriori.specs.CellLevels.{HasLevelsInRange};
-ghost use Rattle.attackers.specs.Alone.{TellFrequencies};
+ghost use Rattle.std.specs.Prelude.{◌≡◌, ◌≤◌, List, Bool, length, IfOk, IfErr};
 ghost use Rattle.attackers.specs.AttackOrder.{attacks_of};
 ghost use Rattle.attackers.specs.Guarding.{IsGuarded};
 ghost use Rattle.attackers.specs.GuardStops.{IsStopAsTold};
 ghost use Rattle.attackers.specs.Turns.{IsLeftOfTurns};
 ghost use Rattle.attackers.specs.WholeGuards.{IsWholeGuarded, IsWholeGuardStop};
-ghost use Rattle.cost_rule.specs.Costs.{AreCosted, IsTold};
-ghost use Rattle.linked_tables.specs.BookCells.{cells as cells_in};
+ghost use Rattle.cost_rule.specs.Costs.{IsTold};
 ghost use Rattle.sdc_base.specs.Signs.{AreSigns};
-ghost use Rattle.contributor_protection.specs.Guards.{case_of, prices_in, IsCertified, IsGuardOf, HasExtraText};
+ghost use Rattle.contributor_protection.specs.Guards.{case_of, prices_in, CanBeGuarded, IsGuardOf, HasExtraText};
 ghost use Rattle.contributor_protection.specs.GuardParts.{FitTogether, IsMadeOf, IsStopOf};
 ghost use Rattle.contributor_protection.specs.WholeOutcomes.{IsWholeOutcome};
 
@@ -107,15 +104,7 @@ pub fn guard_cells(
     cost: CostKind,
     limit: u64,
 ) -> Result<GuardedCells, GuardFailure>
-    requires one_each { length protected.now.cells.now ≡ protected.now.system.now.cells }
-    requires named { length protected.now.cells.now ≡ length (cells_in protected.now.book.now) }
-    requires marks { length protected.now.cells.now ≡ length protected.now.book.now.marks }
-    requires costed { All (λ mark. AreCosted mark.facts) protected.now.book.now.marks }
-    requires levels { All HasLevelsInRange protected.now.cells.now }
-    requires told { TellFrequencies protected.now.book.now protected.now.rows.now }
-    requires fewer_than_2_32 { length protected.now.rows.now < 2 ^ 32 }
-    requires certified { IsCertified (case_of protected.now) protected.now.hidden_set.now certificate }
-    requires limit { 1 ≤ limit }
+    requires can { CanBeGuarded protected.now certificate limit }
     ensures outcome { IsGuardOf protected.now.book.now protected.now.rows.now (case_of protected.now)
         (prices_in cost protected.now) limit protected.now.hidden_set.now certificate result }
     ensures text { IfOk result HasExtraText }

@@ -1,5 +1,5 @@
 -- What becomes of a job that names a file for contributors.
-use Rattle.std.proofs.Common.{◌≡◌, ℕ, ◌+◌, ◌<◌, ◌^◌, arith, Bool, List, length, map, slice_get, slice_index_or, option_map, Option, None, Some, Result, Ok, Err, refl, ap, sym, subst, ◌∙◌, ℤ}
+use Rattle.std.proofs.Common.{◌≡◌, ℕ, ◌+◌, arith, Bool, List, length, slice_get, slice_index_or, option_map, Option, None, Some, Result, Ok, Err, refl, ap, sym, subst, ◌∙◌, ℤ}
 use Rattle.sdc_base.specs.Records.{Name}
 use Rattle.sdc_base.specs.Signs.{AreSigns}
 use Rattle.sdc_base.specs.Trees.{Tree}
@@ -9,14 +9,11 @@ use Rattle.sdc_base.specs.declared.method.Method.TheVariants as methods
 use Rattle.sdc_base.specs.declared.rows.Row.{Row}
 use Rattle.sdc_base.specs.declared.system.System.{System}
 use Rattle.sdc_base.specs.declared.trail.PlanStep.{PlanStep}
-use Rattle.attackers.specs.Alone.{AreSoles, IsSole, TellFrequencies}
-use Rattle.sdc_base.specs.HiddenSets.{hide_cells}
-use Rattle.attackers.specs.declared.extra.Against.{Against}
+use Rattle.attackers.specs.Alone.{AreSoles, IsSole}
 use Rattle.attackers.proofs.Concluding.{length-hide_cells}
 use Rattle.certificate.specs.Certificates.{certificate_of}
 use Rattle.certificate.specs.ExtraReadings.{extra_of}
 use Rattle.certificate.specs.ExtraTexts.{extra_text}
-use Rattle.certificate.specs.Spelling.{IsSpellable}
 use Rattle.certificate.specs.Texts.{text_of}
 use Rattle.certificate.specs.declared.certificate.Certificate.{Certificate}
 use Rattle.contributor_protection.specs.Guards.{IsCertified, IsGuardOf}
@@ -24,13 +21,12 @@ use Rattle.contributor_protection.specs.WholeOutcomes.{IsWholeOutcome}
 use Rattle.contributor_protection.specs.declared.guarding.GuardedCells.{GuardedCells}
 use Rattle.contributor_protection.specs.declared.guarding.GuardFailure.{GuardFailure}
 use Rattle.contributor_protection.specs.declared.guarding.GuardFailure.TheVariants as guard_failure
-use Rattle.cell_protection.specs.Protections.{IsProtectionOf, HasText}
+use Rattle.cell_protection.specs.Protections.{IsProtectionOf}
 use Rattle.cell_protection.specs.declared.protection.ProtectionOutcome.{ProtectionOutcome}
 use Rattle.cell_protection.specs.declared.protection.ProtectionOutcome.TheVariants as protection
 use Rattle.cell_protection.proofs.Protecting.{same-prices}
-use Rattle.linked_tables.specs.BookCells.{cells as cells_in, IsBook}
+use Rattle.linked_tables.specs.BookCells.{IsBook}
 use Rattle.linked_tables.specs.BookViews.{BookView}
-use Rattle.linked_tables.specs.declared.mark.Mark.{Mark}
 use Rattle.modular_plan.specs.Methods.{passes_of}
 use Rattle.modular_plan.specs.Plans.{IsSameButHidden, trail_of}
 use Rattle.relations.specs.Holding.{IsSystemOf}
@@ -49,7 +45,7 @@ use Rattle.job_run.specs.Roundings.{base_in_units, job_base}
 use Rattle.job_run.specs.Reporting.{guard_failure_report}
 use Rattle.job_run.specs.Endings.{ComesToRelease}
 use Rattle.job_run.specs.declared.put.Release.{Release}
-use Rattle.job_run.proofs.Releasing.{each-flag, hiding-comes, outcome-for, stuck-comes, same-contributors, signs-for}
+use Rattle.job_run.proofs.Releasing.{hiding-comes, outcome-for, stuck-comes, same-contributors, signs-for}
 use Rattle.job_run.proofs.SameBook.{same-cells}
 
 -- ---- a book in which other cells are hidden

@@ -1,23 +1,21 @@
 -- A guarded set protects against each contributor, whether or not it alone makes up a cell.
-use Rattle.std.proofs.Common.{◌≡◌, ℕ, ◌<◌, ◌&&◌, not, Bool, true, false, List, [], ◌∷◌, length, slice_get, All, Option, Some, arith, refl, ap, sym, subst, ◌∙◌}
+use Rattle.std.proofs.Common.{◌≡◌, ℕ, ◌<◌, ◌&&◌, not, Bool, true, false, List, [], ◌∷◌, length, slice_get, All, Option, Some, arith, refl, ap, ◌∙◌}
 use Rattle.std.specs.List.{list_any}
 use Rattle.std.specs.Option.{option_map_or}
 use Rattle.std.proofs.lemmas.List.{length-set}
 use Rattle.std.proofs.lemmas.List.Elements.{All-head, All-tail}
 use Rattle.std.proofs.lemmas.Option.{slice_get_within}
-use Rattle.sdc_base.specs.HiddenSets.{is_hidden, IsPermitted, MayHide, hide, hide_cells}
+use Rattle.sdc_base.specs.HiddenSets.{IsPermitted, MayHide, hide, hide_cells}
 use Rattle.sdc_base.specs.Kinds.{is_primary, is_primary_at}
 use Rattle.sdc_base.specs.Worlds.{Protects}
 use Rattle.sdc_base.specs.declared.cell.Cell.{Cell}
-use Rattle.sdc_base.specs.declared.cell.Kind.{Kind}
 use Rattle.sdc_base.specs.declared.cell.Kind.TheVariants.{Primary, Free}
 use Rattle.sdc_base.specs.declared.side.Side.{Side}
-use Rattle.sdc_base.specs.declared.side.Side.TheVariants.{Above, Below}
-use Rattle.repair.specs.HidingOrder.{Case, protected_case, IsOfKind}
-use Rattle.repair.proofs.Flags.{IsWithin, by_test, permitted_more}
+use Rattle.repair.specs.HidingOrder.{protected_case, IsOfKind}
+use Rattle.repair.proofs.Flags.{IsWithin, permitted_more}
 use Rattle.repair.proofs.Growing.{protects_more}
 use Rattle.attackers.specs.Alone.{is_sole}
-use Rattle.attackers.specs.KnownCells.{is_known, is_left, without_known, IsAttack}
+use Rattle.attackers.specs.KnownCells.{is_known, without_known, IsAttack}
 use Rattle.attackers.specs.declared.attack.Attack.{Attack}
 use Rattle.attackers.proofs.AllAttacks.{within_cells}
 use Rattle.attackers.proofs.EachAttack.{guards_each}
@@ -25,7 +23,7 @@ use Rattle.attackers.proofs.Knowing.{left_says}
 use Rattle.job_inputs.specs.ClassifiedJobs.{SettledInputs}
 use Rattle.job_run.specs.GuardedReleases.{IsGuardedRelease}
 use Rattle.job_run.specs.declared.put.Release.{Release}
-use Rattle.job_run.proofs.KnownCells.{known-same, knows-none, unknown-same}
+use Rattle.job_run.proofs.KnownCells.{knows-none}
 
 -- free cells may be hidden too
 pub free-permitted : (cells : List Cell) (flags : List Bool) (extras : List ℕ) → length flags ≡ length cells → All (λ one. IsOfKind cells one Free) extras → IsPermitted cells flags → IsPermitted cells (hide_cells flags extras)

@@ -1,6 +1,6 @@
 -- The promise holds of what a run for a release answers, and of what it put.
-use Rattle.std.proofs.Common.{◌≡◌, ◌≢◌, ℕ, zero, suc, ◌+◌, ◌<◌, ◌==◌, ◌&&◌, ◌||◌, not, inl, inr, Bool, true, false, List, [], ◌∷◌, length, map, slice_get, All, Option, None, Some, Result, Ok, Err, IsOkAnd, arith, refl, ap, sym, subst, ◌∙◌, ℤ}
-use Rattle.std.specs.List.{list_any, zip, AllByRecursion, IsDistinct}
+use Rattle.std.proofs.Common.{◌≡◌, ℕ, zero, suc, ◌+◌, ◌<◌, ◌==◌, ◌||◌, inl, inr, Bool, true, false, List, [], ◌∷◌, length, map, slice_get, Option, None, Some, Result, Ok, Err, IsOkAnd, arith, refl, ap, sym, subst, ◌∙◌, ℤ}
+use Rattle.std.specs.List.{list_any, zip, IsDistinct}
 use Rattle.std.specs.Str.{bytes_eq}
 use Rattle.std.proofs.lemmas.Bool.Decides.{Decides-eqb, nat_tests}
 use Rattle.std.proofs.lemmas.List.{length-map, length-replicate, length-set}
@@ -17,7 +17,6 @@ use Rattle.sdc_base.specs.Steps.{map_fault, refuse}
 use Rattle.sdc_base.specs.Systems.{number_at}
 use Rattle.sdc_base.specs.WhereTold.{WhereTold}
 use Rattle.sdc_base.specs.Worlds.{Protects}
-use Rattle.sdc_base.specs.declared.cell.Cell.{Cell}
 use Rattle.sdc_base.specs.declared.rule.Rules.{Rules}
 use Rattle.sdc_base.specs.declared.side.Side.{Side}
 use Rattle.sdc_base.specs.declared.system.System.{System}
@@ -29,14 +28,12 @@ use Rattle.repair.proofs.Growing.{protects_more}
 use Rattle.repair.proofs.Order.{asked_primary}
 use Rattle.apriori.specs.Applying.{apply_of, file_says, lines_say}
 use Rattle.apriori.specs.CellStatements.{priors_from}
-use Rattle.apriori.specs.Faults.{LineOf}
 use Rattle.apriori.specs.PrimaryShown.{first_clash, refuse_line}
 use Rattle.apriori.specs.Priors.{empty_prior}
-use Rattle.apriori.specs.Settling.{SettledCell, figures_of, settle_of, settled_cell, view_of_cell}
-use Rattle.apriori.specs.declared.faults.PriorWhy.{PriorWhy}
+use Rattle.apriori.specs.Settling.{SettledCell, settle_of, settled_cell, view_of_cell}
 use Rattle.apriori.specs.declared.prior.Prior.{Prior}
 use Rattle.attackers.specs.declared.attack.Attack.{Attack}
-use Rattle.attackers.specs.Extras.{attack_of, subjects_of}
+use Rattle.attackers.specs.Extras.{attack_of}
 use Rattle.attackers.specs.ExtraAcceptance.{IsExtraNeed}
 use Rattle.attackers.specs.Alone.{is_sole}
 use Rattle.attackers.specs.KnownCells.{without_known}
@@ -69,14 +66,14 @@ use Rattle.job_inputs.specs.SoundJobs.{IsSoundJob}
 use Rattle.cell_protection.specs.declared.protection.ProtectionOutcome.TheVariants as protection
 use Rattle.job_run.specs.Endings.{IsHidingRelease, IsReleaseBy}
 use Rattle.job_run.specs.GuardedReleases.{HasNoGuard, IsGuardedRelease, guarded_puts}
-use Rattle.job_run.specs.Promise.{AreRounded, AreTablesBy, AreTablesOf, CantBeGuarded, CantBeProtected, CantBeRounded, GuardedTables, GuardsEachCell, HasCellsByRules, HidingTables, IsHiddenForOthers, IsPermittedSet, IsPromiseOf, IsSensitive, IsTrueOf, ProtectedTables, ProtectsEachCell, RoundedTables, StaysOpen, knows_cell, unknown_to, without}
+use Rattle.job_run.specs.Promise.{AreRounded, AreTablesBy, AreTablesOf, CantBeGuarded, CantBeProtected, CantBeRounded, GuardedTables, GuardsEachCell, HasCellsByRules, IsPromiseOf, IsTrueOf, ProtectedTables, RoundedTables, StaysOpen, knows_cell, unknown_to, without}
 use Rattle.job_run.specs.Protections.{IsProtectionFor, IsSuppressedRelease}
 use Rattle.job_run.specs.Puts.{AllWhole, Put}
 use Rattle.job_run.specs.PutReleases.{Releases}
 use Rattle.job_run.specs.CommandRuns.{AgreesWith}
 use Rattle.job_run.specs.ReleaseRuns.{IsReleaseEnd, IsReleaseRunOf}
 use Rattle.job_run.specs.Releases.{puts_of, shown_in, tables_from, value_in}
-use Rattle.job_run.specs.Roundings.{HasNoRounding, IsReleaseOfRounding, IsRoundingFor, IsSystemIn, job_base, rounded_certificate, truths_in}
+use Rattle.job_run.specs.Roundings.{HasNoRounding, IsReleaseOfRounding, IsRoundingFor, IsSystemIn, job_base, rounded_certificate}
 use Rattle.job_run.specs.declared.put.Release.{Release}
 use Rattle.job_run.specs.declared.report.Report.{Report}
 use Rattle.job_run.specs.declared.report.Report.TheVariants as report
@@ -84,10 +81,9 @@ use Rattle.job_run.specs.declared.report.Summary.{Summary}
 use Rattle.job_run.proofs.GuardingTables.{by-alone, free-permitted}
 use Rattle.job_run.proofs.JobsRead.{described-read, inputs-read, job-read, no-fault}
 use Rattle.job_run.proofs.KnownCells.{known-same, knows-some, unknown-same}
-use Rattle.job_run.proofs.Outcomes.{ok-and}
-use Rattle.job_run.proofs.PromisedCells.{HasCell, IsOf, add-up-hold, as-many-settled, cell-at, hold-add-up, open-protects, settled-at, stays-open}
-use Rattle.job_run.proofs.PromisedTables.{each-needed, not-each, permitted-set, permitted-so, protects-each, tables-show, viewed-at}
-use Rattle.job_run.proofs.PutFiles.{AreHeld, all-held, guarded-names, names, no-file-to-round, ok-same, plain-names, some-before}
+use Rattle.job_run.proofs.PromisedCells.{IsOf, add-up-hold, as-many-settled, cell-at, hold-add-up, open-protects, settled-at, stays-open}
+use Rattle.job_run.proofs.PromisedTables.{each-needed, permitted-set, permitted-so, protects-each, tables-show, viewed-at}
+use Rattle.job_run.proofs.PutFiles.{AreHeld, all-held, guarded-names, names, no-file-to-round, plain-names, some-before}
 use Rattle.job_run.proofs.SameSystem.{as-many-cells}
 use Rattle.job_run.proofs.ShownLaws.{truth-at}
 

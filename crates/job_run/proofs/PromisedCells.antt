@@ -1,12 +1,10 @@
 -- What protects the cells of a system protects them as they are settled, and the other way round.
-use Rattle.std.proofs.Common.{◌≡◌, ℕ, zero, suc, ◌<◌, Bool, false, List, [], ◌∷◌, length, map, slice_get, All, Some, Option, arith, refl, ap, sym, subst, ◌∙◌, ℤ, pos, neg_ℤ, ◌-ℤ◌, ◌≤ℤ◌, ◌*ℤ◌}
+use Rattle.std.proofs.Common.{◌≡◌, ℕ, zero, suc, ◌<◌, Bool, List, [], ◌∷◌, length, map, slice_get, All, Some, Option, arith, refl, ap, sym, subst, ◌∙◌, ℤ, pos}
 use Rattle.std.proofs.lemmas.Int.{ints}
 use Rattle.std.proofs.lemmas.List.{length-map}
 use Rattle.std.proofs.lemmas.List.Elements.{All-nil, All-cons, All-head, All-tail}
 use Rattle.std.proofs.lemmas.Option.{slice_get_within}
-use Rattle.sdc_base.specs.HiddenSets.{is_hidden}
 use Rattle.sdc_base.specs.Systems.{Numbers, HoldOn, form}
-use Rattle.sdc_base.specs.Totals.{sum_of}
 use Rattle.sdc_base.specs.Worlds.{IsWorld, Protects, Reaches}
 use Rattle.sdc_base.specs.declared.cell.Cell.{Cell}
 use Rattle.sdc_base.specs.declared.relation.Relation.{Relation}

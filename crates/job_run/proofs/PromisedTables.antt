@@ -1,9 +1,6 @@
 -- What a hiding release promises of its tables: they show all but a hidden set that protects and is needed.
-use Rattle.std.proofs.Common.{◌≡◌, ◌≢◌, ◌⊎◌, inl, inr, ℕ, zero, suc, ◌+◌, ◌<◌, ◌==◌, ◌&&◌, ◌||◌, not, Bool, true, false, if◌then◌else◌, List, [], ◌∷◌, length, map, slice_get, All, Option, None, Some, arith, refl, ap, sym, subst, ◌∙◌, ℤ}
-use Rattle.std.specs.List.{list_any, AllByRecursion}
-use Rattle.std.proofs.lemmas.Bool.Decides.{Decides-eqb}
-use Rattle.std.proofs.lemmas.Option.{slice_get_within, slice_get-get_or}
-use Rattle.sdc_base.proofs.GrowingLists.{read-at}
+use Rattle.std.proofs.Common.{◌≡◌, ℕ, zero, suc, ◌+◌, ◌<◌, ◌&&◌, not, Bool, true, false, if◌then◌else◌, List, [], ◌∷◌, length, map, slice_get, Option, Some, arith, refl, ap, sym, subst, ◌∙◌, ℤ}
+use Rattle.std.proofs.lemmas.Option.{slice_get_within}
 use Rattle.sdc_base.proofs.WeakDual.{All-found}
 use Rattle.sdc_base.specs.HiddenSets.{is_hidden, IsPermitted}
 use Rattle.sdc_base.specs.Kinds.{is_primary}
@@ -15,9 +12,8 @@ use Rattle.sdc_base.specs.declared.cell.Kind.TheVariants.{Primary, Free, Fixed}
 use Rattle.sdc_base.specs.declared.side.Side.{Side}
 use Rattle.sdc_base.specs.declared.system.System.{System}
 use Rattle.worlds.proofs.RefutationLaws.{no_world}
-use Rattle.worlds.specs.ProtectFaults.{IsProtecting}
 use Rattle.worlds.specs.declared.refuted.Refuted.{Refuted}
-use Rattle.repair.specs.HidingOrder.{Case, protected_case}
+use Rattle.repair.specs.HidingOrder.{protected_case}
 use Rattle.repair.specs.Needs.{IsNeed, others_hidden}
 use Rattle.repair.specs.Verdicts.{AreNeeds}
 use Rattle.repair.proofs.Flags.{by_test}
@@ -28,9 +24,9 @@ use Rattle.office_io.specs.Files.{Files}
 use Rattle.job_inputs.specs.ClassifiedJobs.{SettledInputs}
 use Rattle.job_inputs.specs.Tables.{names_of}
 use Rattle.job_inputs.specs.declared.inputs.Inputs.{Inputs}
-use Rattle.job_run.specs.Promise.{TablesShow, IsSensitive, IsPermittedSet, NeedsEachCell, ProtectsEachCell, IsHiddenForOthers, without}
+use Rattle.job_run.specs.Promise.{TablesShow, IsPermittedSet, NeedsEachCell, ProtectsEachCell, without}
 use Rattle.job_run.specs.Releases.{table_of, tables_from}
-use Rattle.job_run.proofs.PromisedCells.{HasCell, IsOf, as-many-settled, cell-at, entry-in, settled-at, stays-open, open-protects}
+use Rattle.job_run.proofs.PromisedCells.{IsOf, as-many-settled, cell-at, entry-in, settled-at, stays-open, open-protects}
 use Rattle.job_run.proofs.PutFiles.{AreHeld}
 
 -- ---- tables

@@ -1,5 +1,5 @@
 -- What becomes of settled inputs whose job names a file for contributors (own).
-use Rattle.std.specs.Prelude.{◌≡◌, ◌+◌, ◌∷◌, ℕ, Bool, List, length, filter, Option, Some, Result, Ok, Err, ℤ}
+use Rattle.std.specs.Prelude.{◌≡◌, ◌∷◌, ℕ, Bool, List, length, filter, Option, Some, Result, Ok, Err, ℤ}
 use Rattle.sdc_base.specs.Records.{Name}
 use Rattle.sdc_base.specs.declared.side.Side.{Side}
 use Rattle.certificate.specs.Certificates.{certificate_of}

@@ -1,12 +1,12 @@
 -- What becomes of settled inputs that are to be protected (handbook, secondary suppression; repairs, needs and
 -- certificate: own).
 use Rattle.std.specs.Prelude.{◌≡◌, List, ℕ, length, None, Ok}
-use Rattle.sdc_base.specs.declared.cell.Cell.{Cell}
-use Rattle.sdc_base.specs.declared.rows.Row.{Row}
 use Rattle.sdc_base.specs.declared.system.System.{System}
 use Rattle.certificate.specs.Certificates.{certificate_of}
+use Rattle.certificate.specs.Spelling.{IsSpellable}
 use Rattle.certificate.specs.Texts.{text_of}
 use Rattle.certificate.specs.declared.certificate.Certificate.{Certificate}
+use Rattle.contributor_protection.specs.Guards.{case_of, IsCertified}
 use Rattle.contributor_protection.specs.declared.guarding.ProtectedCells.{ProtectedCells}
 use Rattle.cell_protection.specs.Protections.{IsProtectionOf}
 use Rattle.cell_protection.specs.WholeProtections.{IsWholeProtection}
@@ -25,7 +25,7 @@ use Rattle.linked_tables.specs.BookCells.{IsBook}
 use Rattle.linked_tables.specs.BookViews.{BookView}
 use Rattle.relations.specs.Holding.{IsSystemOf}
 use Rattle.relations.specs.TableSigns.{IsOneOrTwoWay}
-use Rattle.job_run.specs.Books.{job_of}
+use Rattle.job_run.specs.Books.{IsPlannedBook, job_of}
 use Rattle.job_run.specs.Releases.{puts_of, shown_in, summary_of}
 use Rattle.job_run.specs.Roundings.{job_base}
 use Rattle.job_run.specs.declared.put.Release.{Release}
@@ -62,6 +62,14 @@ pub record IsSuppressedRelease (settled : SettledInputs) (release : Release) : T
 abbrev pub ProtectionStopsShort : SettledInputs → AskFault → List Refuted → List ℕ → Type 0
 ProtectionStopsShort settled fault repairs shown =
     IsProtectionFor settled (protection.Undecided (record { fault = fault; repairs = repairs; shown = shown }))
+
+-- A hidden set protects the cells of a ready job, planned in this book; its certificate can be spelled.
+pub record IsProtectedBook (described : DescribedJob) (protected : ProtectedCells) (certificate : Certificate)
+    : Type 0 where
+  pub planned : IsPlannedBook described protected.book.now protected.cells.now protected.rows.now
+  pub one_each : length protected.cells.now ≡ protected.system.now.cells
+  pub certified : IsCertified (case_of protected) protected.hidden_set.now certificate
+  pub text : IsSpellable certificate
 
 -- The job of these parts is that of settled inputs and hides cells, and this hidden set protects them, planned in this
 -- book.

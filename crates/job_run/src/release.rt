@@ -1,19 +1,16 @@
-ghost use Rattle.std.specs.Prelude.{◌≡◌, ◌+◌, ◌≤◌, ◌<◌, ◌^◌, ℕ, List, All, None, Ok, IfOk, length};
-ghost use Rattle.sdc_base.specs.declared.rows.Row.{Row as AnyRow};
-ghost use Rattle.apriori.specs.CellLevels.{HasLevelsInRange};
+ghost use Rattle.std.specs.Prelude.{◌≡◌, ◌+◌, ◌≤◌, ◌<◌, ◌^◌, ℕ, None, Ok, IfOk, length};
 ghost use Rattle.certificate.specs.Certificates.{certificate_of};
 ghost use Rattle.certificate.specs.Spelling.{IsSpellable};
 ghost use Rattle.certificate.specs.Texts.{text_of};
-ghost use Rattle.linked_tables.specs.BookCells.{cells as cells_in};
 ghost use Rattle.job_lang.specs.JobLimits.{IsMethod};
-ghost use Rattle.job_inputs.specs.ClassifiedJobs.{IsSettledOf, SettledInputs};
-ghost use Rattle.job_inputs.specs.SoundJobs.{IsSoundJob};
-ghost use Rattle.job_inputs.specs.TabulatedBooks.{IsBookOf, IsReadyFor};
+ghost use Rattle.job_inputs.specs.ClassifiedJobs.{IsReadyJob, IsSettledOf, SettledInputs};
+ghost use Rattle.job_inputs.specs.TabulatedBooks.{IsBookOf};
 ghost use Rattle.job_inputs.specs.declared.inputs.Inputs.{Inputs as AnyInputs};
 ghost use Rattle.job_run.specs.Books.{CanBeReleased, IsHidingBook, job_of};
 ghost use Rattle.job_run.specs.Endings.{ComesToRelease, JobComesToRelease};
 ghost use Rattle.job_run.specs.FileCounts.{file_count};
-ghost use Rattle.job_run.specs.Releases.{puts_of, shown_in};
+ghost use Rattle.job_run.specs.Protections.{IsProtectedBook, IsProtectedJob};
+ghost use Rattle.job_run.specs.Releases.{puts_of, shown_in, summary_of};
 ghost use Rattle.job_run.specs.Roundings as roundings;
 
 use crate::guarded::guarded_release;
@@ -24,11 +21,12 @@ use crate::report::{Report, Summary};
 use crate::rounded::rounded_release;
 use cell_protection::{ProtectionOutcome, protect_cells};
 use certificate::Certificate;
+use contributor_protection::ProtectedCells;
 use job_inputs::{ClassifiedJob, DescribedJob, base_in_units};
 use linked_tables::Book;
 use relations::relations_of;
 use release_writer::Shown;
-use sdc_base::{Cell, Memory, Method};
+use sdc_base::{Cell, Memory, Method, Row};
 use std::alloc::Global;
 use worlds::Protected;
 
@@ -60,60 +58,45 @@ fn job_base(method: Method, decimals: u8) -> Option<i128>
     }
 }
 
-// The release of a job that hides cells: guarded against contributors, where it names a file for them.
+// The release of a job that hides cells.
 fn hiding_release(alloc: Global, job: ClassifiedJob) -> Result<Release, Report>
     requires can { CanBeReleased job }
     requires hides { roundings.job_base job.described ≡ None }
     ensures comes { (settled : SettledInputs) → IsSettledOf settled job → ComesToRelease settled result }
     ensures each_file { IfOk result (λ release. length release.puts ≡ file_count job.described.job) }
 {
-    match &job.described.job.contributors {
-        Some(line) => {
-            let name = line.file.copy(alloc)?;
-            guarded_release(alloc, job, name)
-        }
-        None => suppressed_release(alloc, job),
-    }
-}
-
-// The release of a job that hides cells and names no file for contributors.
-fn suppressed_release(alloc: Global, job: ClassifiedJob) -> Result<Release, Report>
-    requires can { CanBeReleased job }
-    requires hides { roundings.job_base job.described ≡ None }
-    requires unnamed { job.described.job.contributors ≡ None }
-    ensures comes { (settled : SettledInputs) → IsSettledOf settled job → ComesToRelease settled result }
-    ensures one_more_than_tables { IfOk result (λ release. length release.puts ≡ 1 + length job.described.job.tables) }
-{
     let summary = unhidden_summary(&job);
     let ClassifiedJob {
         described,
         mut book,
         cells,
+        rows,
         ..
     } = job;
-    suppress_parts(alloc, &described, &mut book, cells.as_slice(), summary)
+    hide_parts(
+        alloc,
+        &described,
+        &mut book,
+        cells.as_slice(),
+        rows.as_slice(),
+        summary,
+    )
 }
 
 // The same, with the parts of the job, and with its numbers as they are while no cell is hidden.
-fn suppress_parts(
+fn hide_parts(
     alloc: Global,
     described: &DescribedJob,
     book: &mut Book,
     cells: &[Cell],
+    rows: &[Row],
     summary: Summary,
 ) -> Result<Release, Report>
-    requires sound { IsSoundJob described.now }
-    requires book { IsReadyFor described.now book.old }
-    requires one_each { length book.old.marks ≡ length (cells_in book.old) }
-    requires settled { length cells.now ≡ length book.old.marks }
-    requires levels { All HasLevelsInRange cells.now }
-    requires fewer_than_2_32 { length cells.now < 2 ^ 32 }
+    requires ready { IsReadyJob (job_of described.now book.old cells.now rows.now 0 0) }
     requires hides { roundings.job_base described.now ≡ None }
-    requires unnamed { described.now.job.contributors ≡ None }
-    ensures comes { (rows : List AnyRow) → (records skipped : ℕ)
-        → JobComesToRelease (job_of described.now book.old cells.now rows records skipped) summary result }
-    ensures one_more_than_tables { IfOk result
-        (λ release. length release.puts ≡ 1 + length described.now.job.tables) }
+    ensures comes { (records skipped : ℕ)
+        → JobComesToRelease (job_of described.now book.old cells.now rows.now records skipped) summary result }
+    ensures each_file { IfOk result (λ release. length release.puts ≡ file_count described.now.job) }
 {
     // for the proof: what holds of every book
     let _known = book.cells();
@@ -132,8 +115,14 @@ fn suppress_parts(
             protected,
             certificate,
         } => {
-            let release = hidden_release(alloc, described, book, &protected, certificate, summary)?;
-            Ok(release)
+            let protected_cells = ProtectedCells {
+                book,
+                rows,
+                system: &system,
+                cells,
+                hidden_set: &protected,
+            };
+            protected_release(alloc, described, &protected_cells, certificate, summary)
         }
         ProtectionOutcome::Cannot(unprotected) => Err(Report::Cannot {
             cell: unprotected.cell,
@@ -144,8 +133,40 @@ fn suppress_parts(
     }
 }
 
+// The release of a job whose cells a hidden set protects: guarded against contributors, where it names a file for them.
+fn protected_release(
+    alloc: Global,
+    described: &DescribedJob,
+    protected: &ProtectedCells<'_>,
+    certificate: Certificate,
+    summary: Summary,
+) -> Result<Release, Report>
+    requires protected { IsProtectedBook described.now protected.now certificate }
+    ensures comes { (settled : SettledInputs) → IsProtectedJob settled described.now protected.now certificate
+        → summary ≡ summary_of settled 0 → ComesToRelease settled result }
+    ensures each_file { IfOk result (λ release. length release.puts ≡ file_count described.now.job) }
+{
+    match &described.job.contributors {
+        Some(line) => {
+            let name = line.file.copy(alloc)?;
+            guarded_release(alloc, described, protected, name, certificate, summary)
+        }
+        None => {
+            let release = suppressed_release(
+                alloc,
+                described,
+                protected.book,
+                protected.hidden_set,
+                certificate,
+                summary,
+            )?;
+            Ok(release)
+        }
+    }
+}
+
 // The release whose tables hide the cells of a set, with its certificate.
-fn hidden_release(
+fn suppressed_release(
     alloc: Global,
     described: &DescribedJob,
     book: &Book,

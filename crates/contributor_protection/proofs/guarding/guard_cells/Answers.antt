@@ -11,12 +11,12 @@ use Rattle.contributor_protection.proofs.guarding.guard_cells.Goals as goal
 
 pub answer_by-outcome-requires-clause-together : goal.answer_by-outcome-requires-clause-together
 answer_by-outcome-requires-clause-together c =
-    let own = c.requires.certified.protects.verdict.0 in
+    let own = c.requires.can.certified.protects.verdict.0 in
     record {
-      one_each = c.requires.one_each;
-      marks = c.requires.marks;
-      costed = c.requires.costed;
-      levels = c.requires.levels;
+      one_each = c.requires.can.one_each;
+      marks = c.requires.can.marks;
+      costed = c.requires.can.costed;
+      levels = c.requires.can.levels;
       of_system = own.of_system;
       of_cells = own.of_cells;
       each_flag = own.each_flag;
@@ -30,8 +30,8 @@ returns-in-Ok-clause-outcome c =
     let turns = subst (λ (soles : List (Option ℕ)). IsLeftOfTurns all soles prices (attacks_of c.args.protected.now.cells.now soles) c.args.protected.now.hidden_set.now.hidden.flags c.in-Ok.answer) c.deref.ensures.value c.in-Ok.ensures.turns in
     let made = subst (λ (hidden : Hidden). IsMadeOf c.args.certificate hidden.flags c.in-Ok.answer c.guarded_by.result) c.hidden.ensures.hidden c.guarded_by.ensures in
     guard-of c.args.protected.now.book.now c.args.protected.now.rows.now all prices c.args.limit c.args.protected.now.hidden_set.now c.args.certificate c.in_ok-alone.alone.items c.guarded_by.result
-    (c.in_ok-alone.ensures.one_each ∙ sym c.requires.named) c.in_ok-alone.ensures.one_each c.in_ok-alone.ensures.soles
-    (answer-comes all prices c.in_ok-alone.alone.items c.args.limit c.args.protected.now.hidden_set.now c.args.certificate c.in-Ok.answer c.guarded_by.result c.requires.certified guarded turns made)
+    (c.in_ok-alone.ensures.one_each ∙ sym c.requires.can.named) c.in_ok-alone.ensures.one_each c.in_ok-alone.ensures.soles
+    (answer-comes all prices c.in_ok-alone.alone.items c.args.limit c.args.protected.now.hidden_set.now c.args.certificate c.in-Ok.answer c.guarded_by.result c.requires.can.certified guarded turns made)
 
 pub returns-in-Ok-clause-text : goal.returns-in-Ok-clause-text
 returns-in-Ok-clause-text c =
@@ -40,9 +40,9 @@ returns-in-Ok-clause-text c =
     let guarded = subst (λ (soles : List (Option ℕ)). IsGuarded all soles c.args.protected.now.hidden_set.now.hidden.flags c.args.protected.now.hidden_set.now.worlds c.in-Ok.answer) c.deref.ensures.value c.in-Ok.ensures.guarded in
     let turns = subst (λ (soles : List (Option ℕ)). IsLeftOfTurns all soles prices (attacks_of c.args.protected.now.cells.now soles) c.args.protected.now.hidden_set.now.hidden.flags c.in-Ok.answer) c.deref.ensures.value c.in-Ok.ensures.turns in
     let made = subst (λ (hidden : Hidden). IsMadeOf c.args.certificate hidden.flags c.in-Ok.answer c.guarded_by.result) c.hidden.ensures.hidden c.guarded_by.ensures in
-    let said = can-be-said c.args.protected.now.book.now c.args.protected.now.rows.now c.in_ok-alone.alone.items c.in_ok-alone.ensures.one_each c.requires.fewer_than_2_32 c.in_ok-alone.ensures.soles in
-    has-text all prices c.in_ok-alone.alone.items c.args.limit c.args.protected.now.hidden_set.now c.args.certificate c.guarded_by.result c.requires.one_each said
-    (answer-comes all prices c.in_ok-alone.alone.items c.args.limit c.args.protected.now.hidden_set.now c.args.certificate c.in-Ok.answer c.guarded_by.result c.requires.certified guarded turns made)
+    let said = can-be-said c.args.protected.now.book.now c.args.protected.now.rows.now c.in_ok-alone.alone.items c.in_ok-alone.ensures.one_each c.requires.can.fewer_than_2_32 c.in_ok-alone.ensures.soles in
+    has-text all prices c.in_ok-alone.alone.items c.args.limit c.args.protected.now.hidden_set.now c.args.certificate c.guarded_by.result c.requires.can.one_each said
+    (answer-comes all prices c.in_ok-alone.alone.items c.args.limit c.args.protected.now.hidden_set.now c.args.certificate c.in-Ok.answer c.guarded_by.result c.requires.can.certified guarded turns made)
 
 pub returns-in-Ok-clause-whole : goal.returns-in-Ok-clause-whole
 returns-in-Ok-clause-whole c = λ signs are.

@@ -1,4 +1,4 @@
-use Rattle.std.proofs.Common.{Result, Err, ap, sym, subst, ◌∙◌}
+use Rattle.std.proofs.Common.{Result, sym, subst}
 use Rattle.certificate.specs.declared.certificate.Certificate.{Certificate}
 use Rattle.job_inputs.specs.CertificateFile.{IsSoundCertificate}
 use Rattle.job_inputs.specs.ReadFiles.{output_limit}

@@ -1,25 +1,19 @@
-use Rattle.std.proofs.Common.{◌≡◌, All, List, arith, length, refl, ap, sym, subst, ◌∙◌}
-use Rattle.sdc_base.specs.declared.cell.Cell.{Cell}
-use Rattle.apriori.specs.CellLevels.{HasLevelsInRange}
-use Rattle.job_inputs.specs.ClassifiedJobs.{IsSettledOf}
-use Rattle.job_inputs.specs.declared.settled.ClassifiedJob.{ClassifiedJob}
+use Rattle.std.proofs.Common.{◌≡◌, length, Bool, List, ap, ◌∙◌}
+use Rattle.sdc_base.specs.declared.hidden.Hidden.{Hidden}
+use Rattle.job_run.specs.Releases.{puts_of, shown_in}
+use Rattle.job_run.proofs.Releasing.{hidden-can}
 use Rattle.job_run.proofs.release.suppressed_release.Goals as goal
 
-pub suppress_parts-requires-clause-settled : goal.suppress_parts-requires-clause-settled
-suppress_parts-requires-clause-settled c = ap (λ (cells : List Cell). length cells) c.as_slice.ensures ∙ c.requires.can.ready.settled
+pub puts_for-requires-clause-shown : goal.puts_for-requires-clause-shown
+puts_for-requires-clause-shown c =
+    let flags : length c.hidden.result.now.flags ≡ length c.args.book.now.marks = ap (λ (hidden : Hidden). length hidden.flags) c.hidden.ensures.hidden ∙ c.requires.shown.each_flag in
+    record {
+      sound = c.requires.shown.sound;
+      ready = c.requires.shown.ready;
+      can = hidden-can c.args.described.now c.args.book.now c.hidden.result c.requires.shown.ready flags;
+    }
 
-pub suppress_parts-requires-clause-levels : goal.suppress_parts-requires-clause-levels
-suppress_parts-requires-clause-levels c = subst (λ (cells : List Cell). All HasLevelsInRange cells) (sym c.as_slice.ensures) c.requires.can.ready.levels
-
-pub returns-clause-comes : goal.returns-clause-comes
-returns-clause-comes c = λ settled is.
-    let job = c.args.job in
-    let parts = subst (λ (cells : List Cell). IsSettledOf settled (record {
-      described = job.described;
-      book = job.book;
-      cells = cells;
-      rows = job.rows;
-      records = job.records;
-      skipped = job.skipped;
-    })) (sym c.as_slice.ensures) is in
-    c.suppress_parts.ensures.comes job.rows job.records job.skipped settled parts (c.unhidden_summary-summary.ensures settled is)
+pub returns-clause-puts : goal.returns-clause-puts
+returns-clause-puts c = λ inputs is whole.
+    c.in_ok-puts.ensures.puts inputs is whole
+    ∙ ap (λ (flags : List Bool). puts_of inputs (shown_in inputs flags) c.args.certificate) (ap (λ (hidden : Hidden). hidden.flags) c.hidden.ensures.hidden)
