@@ -19,10 +19,10 @@ use Rattle.repair.proofs.Order.{asked_primary, primary_by}
 use Rattle.attackers.specs.declared.attack.Attack.{Attack}
 use Rattle.attackers.specs.Alone.{is_sole}
 use Rattle.attackers.specs.KnownCells.{is_known, IsAttack, serves}
-use Rattle.attackers.specs.AttackOrder.{with_row, sole_rows, attack_by, attacks_on, attacks_of, is_unserved, unserved_on, unserved_attacks, IsThinned}
+use Rattle.attackers.specs.AttackOrder.{with_row, sole_rows, attack_by, attacks_on, attacks_of, is_unserved, unserved_on, unserved_attacks}
 use Rattle.attackers.proofs.Holding.{any_here}
 use Rattle.attackers.proofs.Knowing.{shown_past}
-use Rattle.attackers.proofs.Thinning.{thinned_both}
+use Rattle.attackers.proofs.Thinning.{thinned_both, IsThinned}
 
 -- ---- larger sets
 

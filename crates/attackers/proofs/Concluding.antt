@@ -38,7 +38,7 @@ use Rattle.attackers.specs.Guarding.{guards_in_order, lines_of, IsGuardedBy, IsG
 use Rattle.attackers.specs.Narrowing.{IsNarrowed, IsOutcome}
 use Rattle.attackers.specs.GuardStops.{IsStopAsTold}
 use Rattle.attackers.specs.ExtraAcceptance.{IsGuarding}
-use Rattle.attackers.specs.AttackOrder.{attacks_of, unserved_attacks, IsThinned}
+use Rattle.attackers.specs.AttackOrder.{attacks_of, unserved_attacks}
 use Rattle.attackers.specs.declared.contributor_task.ContributorTask.{ContributorTask}
 use Rattle.attackers.specs.declared.extra.GuardStop.{GuardStop}
 use Rattle.attackers.specs.declared.extra.Guarded.{Guarded}
@@ -48,7 +48,7 @@ use Rattle.attackers.proofs.AllAttacks.{IsServedBy, unserved_thinned}
 use Rattle.attackers.proofs.GuardOrder.{guard_cells_pass, All-in_order, guards_pass, attacks_pass, any_in_order, served_lines, All-lines, worlds_guard, ProtectedSays}
 use Rattle.attackers.proofs.Halting.{IsLeftOut, cannot_all, stops_all}
 use Rattle.attackers.proofs.Resisting.{in_full}
-use Rattle.attackers.proofs.Thinning.{thinned_all}
+use Rattle.attackers.proofs.Thinning.{thinned_all, IsThinned}
 use Rattle.attackers.proofs.AskedCells.{AttackSays, attack_says, attack_at}
 use Rattle.attackers.proofs.Holding.{any_left, any_right}
 use Rattle.attackers.proofs.Knowing.{without_more, all_guards_more}
@@ -286,7 +286,7 @@ stopped task first worlds stop protected left is =
     (subst (λ (l : List Attack). IsThinned (IsServedBy task.cells.now task.soles.now worlds) (attacks_of task.cells.now task.soles.now) l) (sym left) (unserved_thinned task.cells.now task.soles.now worlds protected.count))
     (left_out (case_of task) task.soles.now first worlds protected) is
 
--- no hidden set guards exactly where the full set doesn't
+-- the answer is that the full set doesn't guard against an attack exactly where it doesn't guard against all
 pub cannot_where : (c : Case) (soles : List (Option ℕ)) (flags : List Bool) (worlds : List World) (found : Guarded) → IsGuarded c soles flags worlds found → IsTrue (is_cannot found) ↔ ¬ GuardsAll c soles (full_set c.cells) (attacks_of c.cells soles)
 cannot_where c soles flags worlds (guards.Guards extra) is = ((λ bad. absurd cc), (λ not_all. absurd (not_all is.full_guards)))
 cannot_where c soles flags worlds (guards.CannotAgainst row cell side m) is = ((λ _ all. is.unguarded (here all)), (λ _. refl))

@@ -18,7 +18,6 @@ use Rattle.attackers.specs.declared.extra.GuardStop.{GuardStop}
 use Rattle.repair.specs.declared.progress.Progress.{Progress}
 use Rattle.attackers.specs.declared.contributor_task.ContributorTask.{ContributorTask}
 use Rattle.attackers.specs.KnownCells.{Guards, GuardsBefore}
-use Rattle.attackers.specs.AttackOrder.{IsThinned}
 use Rattle.attackers.specs.Extras.{attack_of, subjects_of, IsInTurn, EachExtra}
 use Rattle.attackers.specs.ContributorTasks.{case_of, IsExtendedUpTo, IsAsked, IsHalted, IsCannot}
 use Rattle.attackers.specs.Dropping.{is_beside, AreDropped, IsTryStop, TriesStopFor}
@@ -27,7 +26,7 @@ use Rattle.repair.proofs.WantOfMemory.{unless_memory, memory_more}
 use Rattle.attackers.specs.GuardStops.{row_with_fault, IsGuardStop, StopsFor, IsStopAsTold}
 use Rattle.attackers.proofs.AllAttacks.{within_cells, within_one}
 use Rattle.attackers.proofs.Knowing.{guards_more}
-use Rattle.attackers.proofs.Thinning.{thinned_all, spot, spot_stands, spot_before, spot_order}
+use Rattle.attackers.proofs.Thinning.{thinned_all, spot, spot_stands, spot_before, spot_order, IsThinned}
 
 -- nothing is dropped yet
 none_dropped : (c : Case) (soles : List (Option ℕ)) (attacks : List Attack) (first larger : List Bool) → AreDropped c soles attacks first larger []

@@ -88,7 +88,7 @@ turn_by c soles prices attacks flags place attack m subject is cheapest = record
   cheapest = cheapest;
 }
 
--- ---- no hidden set guards
+-- ---- the full set doesn't guard
 
 or_nothing : (b : Bool) → (b || false) ≡ b
 or_nothing true = refl
@@ -147,7 +147,7 @@ bounded_left cells soles row flags k each permitted none bounded n cell found hi
     let may : (may_hide cell.kind && not (is_known soles row n)) ≡ true = ap (λ b. b && not (is_known soles row n)) (sym full) ∙ sym (left_says soles row (full_set cells) n) ∙ hidden in
     bounded n cell found (left_says soles row flags n ∙ hidden_left cell.kind (is_known soles row n) (is_hidden flags n) (k n) (permitted.primary_hidden n cell found) test may up) up
 
--- where no cell would break them, the multipliers show that no hidden set guards against the attack
+-- where no cell would break them, the multipliers show that the full set doesn't guard against the attack
 pub cannot_by : (c : Case) (soles : List (Option ℕ)) (attacks : List Attack) (flags : List Bool) (place : ℕ) (attack : Attack) (m : Multipliers) → length c.cells ≡ c.system.cells → length flags ≡ c.system.cells → IsPermitted c.cells flags → IsAttack c.cells soles attack → IsRefutedAt c soles attacks flags place attack m → ((n : ℕ) → breaks_at c.cells (with_known soles attack.row flags) (coefficients_for c.system (target_of attack) m) n ≡ false) → IsCannot c soles attacks attack m
 cannot_by c soles attacks flags place attack m one_each each permitted on is none =
     let says : AttackSays c.cells soles attack = attack_says c.cells soles attack on in

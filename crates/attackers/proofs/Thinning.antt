@@ -1,7 +1,12 @@
 -- Lists from which items that have a property are left out.
-use Rattle.std.proofs.Common.{◌≡◌, inl, inr, ℕ, zero, suc, ◌≤◌, List, [], ◌∷◌, ◌++◌, take, slice_get, All, Some, ap, subst, arith}
+use Rattle.std.proofs.Common.{◌≡◌, ◌⊎◌, inl, inr, ℕ, zero, suc, ◌≤◌, List, [], ◌∷◌, ◌++◌, take, slice_get, All, Some, ap, subst, arith}
 use Rattle.std.proofs.lemmas.List.Elements.{All-nil, All-head, All-tail, All-cons}
-use Rattle.attackers.specs.AttackOrder.{IsThinned}
+
+-- The one list is what is left of the other, in its order, where items are left out that have a property.
+abbrev pub IsThinned : {X : Type 0} → (X → Type 0) → List X → List X → Type 0
+IsThinned Is [] left = left ≡ []
+IsThinned {X = X} Is (x ∷ xs) left =
+    (Is x × IsThinned Is xs left) ⊎ ((rest : List X) × (left ≡ x ∷ rest) × IsThinned Is xs rest)
 
 -- both of two lists are thinned
 pub thinned_both : {X : Type 0} (Is : X → Type 0) (xs left ys rest : List X) → IsThinned Is xs left → IsThinned Is ys rest → IsThinned Is (xs ++ ys) (left ++ rest)

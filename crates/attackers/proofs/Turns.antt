@@ -15,7 +15,7 @@ use Rattle.attackers.specs.declared.attack.Attack.{Attack}
 use Rattle.attackers.specs.declared.extra.Guarded.{Guarded}
 use Rattle.attackers.specs.declared.extra.Guarded.TheVariants as guards
 use Rattle.attackers.specs.declared.contributor_task.ContributorTask.{ContributorTask}
-use Rattle.attackers.specs.AttackOrder.{attacks_of, unserved_attacks, IsThinned}
+use Rattle.attackers.specs.AttackOrder.{attacks_of, unserved_attacks}
 use Rattle.attackers.specs.Dropping.{is_beside, cells_beside, IsNeedFor}
 use Rattle.attackers.specs.Extras.{attack_of, subjects_of}
 use Rattle.attackers.specs.Narrowing.{IsNarrowed, IsOutcome}
@@ -25,7 +25,7 @@ use Rattle.attackers.proofs.AllAttacks.{IsServedBy, unserved_thinned}
 use Rattle.attackers.proofs.Concluding.{hidden_beside, left_out}
 use Rattle.attackers.proofs.GuardOrder.{ProtectedSays}
 use Rattle.attackers.proofs.Halting.{IsLeftOut, before_all, each_all}
-use Rattle.attackers.proofs.Thinning.{spot, spot_stands}
+use Rattle.attackers.proofs.Thinning.{spot, spot_stands, IsThinned}
 
 -- what holds of all subjects holds of each need's
 of_subjects : (Q : ℕ → Type 0) (needs : List ExtraNeed) → All Q (subjects_of needs) → All (λ (need : ExtraNeed). Q need.subject) needs

@@ -1,5 +1,5 @@
 -- The order of attacks: rows ascending, for each the primary cells that it doesn't know, above before below (own).
-use Rattle.std.specs.Prelude.{◌≡◌, ◌⊎◌, ℕ, ◌&&◌, not, Bool, List, [], ◌∷◌, map, filter, fold, flat_map, if◌then◌else◌, Option, None, Some}
+use Rattle.std.specs.Prelude.{ℕ, ◌&&◌, not, Bool, List, [], ◌∷◌, map, filter, fold, flat_map, if◌then◌else◌, Option, None, Some}
 use Rattle.std.specs.Ordering.{nat_cmp}
 use Rattle.std.specs.BTreeSet.{insert_key}
 use Rattle.sdc_base.specs.declared.cell.Cell.{Cell}
@@ -47,9 +47,3 @@ unserved_on cells soles (asked ∷ more) (world ∷ worlds) row =
 abbrev pub unserved_attacks : List Cell → List (Option ℕ) → List World → List Attack
 unserved_attacks cells soles worlds =
     flat_map (unserved_on cells soles (asked_of 0 cells) worlds) (sole_rows soles)
-
--- The one list is what is left of the other, in its order, where items are left out that have a property.
-abbrev pub IsThinned : {X : Type 0} → (X → Type 0) → List X → List X → Type 0
-IsThinned Is [] left = left ≡ []
-IsThinned {X = X} Is (x ∷ xs) left =
-    (Is x × IsThinned Is xs left) ⊎ ((rest : List X) × (left ≡ x ∷ rest) × IsThinned Is xs rest)

@@ -100,7 +100,7 @@ pub record IsRefutedAt (c : Case) (soles : List (Option ℕ)) (attacks : List At
   pub refutes : Unguards c soles flags attack multipliers
   pub gives : AreGiven c.system c.cells (without_known soles attack.row flags) (target_of attack) multipliers
 
--- No hidden set guards against an attack: multipliers refute it for the full set without what the contributor knows,
+-- The full set doesn't guard against an attack: multipliers refute it for that set without what the contributor knows,
 -- in whole units where the relations have signs; and the full set guards against all that stand before it.
 pub record IsCannot (c : Case) (soles : List (Option ℕ)) (attacks : List Attack) (attack : Attack)
     (multipliers : Multipliers) : Type 0 where
@@ -116,7 +116,7 @@ abbrev pub IsUnguardedAttack : ContributorTask → UnguardedAttack → Type 0
 IsUnguardedAttack task found =
     IsCannot (case_of task) task.soles.now task.attacks.now found.attack found.multipliers
 
--- what the attack at a place comes to: a guard serves; or an extra cell more; or that no hidden set guards against it
+-- what the attack at a place comes to: a guard serves; or an extra cell more; or the full set doesn't guard against it
 abbrev pub IsStep : ContributorTask → ℕ → Progress WorldLine ExtraNeed → Progress WorldLine ExtraNeed
     → Step UnguardedAttack → Type 0
 IsStep task place before after Served = AreHeldBefore task (place + 1) after
@@ -124,7 +124,7 @@ IsStep task place before after Widened =
     AreHeldBefore task place after × (shown_count after.hidden.flags < shown_count before.hidden.flags)
 IsStep task place before after (Cannot found) = IsUnguardedAttack task found
 
--- guards hold against the attacks before a place, or no hidden set guards against one
+-- guards hold against the attacks before a place, or the full set doesn't guard against one
 abbrev pub AreHeldOr : ContributorTask → ℕ → Progress WorldLine ExtraNeed → Option UnguardedAttack → Type 0
 AreHeldOr task place progress None = AreHeldBefore task place progress
 AreHeldOr task place progress (Some found) = IsUnguardedAttack task found

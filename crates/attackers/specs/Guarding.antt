@@ -45,7 +45,7 @@ IsGuarded c soles flags worlds (Guards extra) = IsGuardedBy c soles flags worlds
 IsGuarded c soles flags worlds (CannotAgainst row cell side multipliers) =
     IsCannot c soles (attacks_of c.cells soles) (record { row = row; cell = cell; side = side }) multipliers
 
--- whether it is that no hidden set guards against an attack
+-- whether it is that the full set doesn't guard against an attack
 abbrev pub is_cannot : Guarded → Bool
 is_cannot (Guards extra) = false
 is_cannot (CannotAgainst row cell side multipliers) = true

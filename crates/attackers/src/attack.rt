@@ -12,7 +12,7 @@ pub struct Attack {
     pub side: Side,
 }
 
-/// An attack against which no hidden set guards.
+/// An attack against which not even all cells guard that may be hidden.
 #[derive(Drop)]
 pub struct UnguardedAttack {
     /// What the contributor could try.

@@ -29,7 +29,7 @@ pub enum Guarded {
     /// With these cells hidden too, every primary cell is open to both sides by its levels against each contributor that
     /// doesn't know it.
     Guards(Extra),
-    /// No hidden set guards this cell to this side against this contributor.
+    /// Not even all cells that may be hidden guard this cell to this side against this contributor.
     CannotAgainst {
         row: u32,
         cell: u32,

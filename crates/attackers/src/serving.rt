@@ -81,7 +81,7 @@ fn guard_at(
 }
 
 // Asks about the attack at a place once, unless a kept world serves: keeps a world, or else hides an extra cell, or
-// finds that no hidden set guards against it.
+// finds that the full set doesn't guard against it.
 fn guard_once(
     alloc: Global,
     task: &ContributorTask<'_>,

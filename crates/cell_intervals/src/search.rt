@@ -57,9 +57,9 @@ impl EndSearch {
     ///
     /// An end of the searches is where a world takes the cell, if multipliers bound it there, or 2^110 units away from
     /// the truth. The system, its cells and the hidden set are those of the searches: with others they find nothing, or
-    /// what is right for these. `limit`, 1 or more, says how many improvements each question may make; a search makes at
-    /// most so many steps for an end, and never more than 10,000. Each world and each sum of multipliers is checked by a
-    /// walk through the relations and the cells.
+    /// what is right for these. `limit`, 1 or more, says how many improvements each question may make; how many steps a
+    /// search takes is no part of the contract. Each world and each sum of multipliers is checked by a walk through the
+    /// relations and the cells.
     ///
     /// The two ends are those of the feasibility interval in Hundepool et al., Statistical Disclosure Control, chapter
     /// on magnitude tables; that multipliers bound a cell is linear duality.

@@ -5,7 +5,7 @@ use Rattle.std.specs.Prelude.{codes}
 use Rattle.std.proofs.lemmas.Slice.Eq.{bytes_eq-Decides}
 use Rattle.cell_listing.specs.Asked.{job_and_file_for_intervals, asks_for_intervals, named_with, job_for_release, job_for_relations}
 use Rattle.cell_listing.specs.Calls.{job_named}
-use Rattle.cell_listing.specs.IntervalRuns.{IsOfSome}
+use Rattle.cell_listing.specs.IntervalRuns.{IsSomeIntervalListingAnswer}
 use Rattle.cell_listing.specs.declared.stop.ListingStop.{ListingStop}
 use Rattle.cell_listing.specs.declared.stop.ListingStop.TheVariants as stop
 use Rattle.std.specs.Prelude.{Vec}
@@ -85,5 +85,5 @@ named_by_four words name first second file p q r s test size in0 in1 in2 in3 is 
     ∙ ap job_and_file_for_intervals (sym (four_words words name first second file p q r s size in0 in1 in2 in3))
 
 -- a run of a listing with intervals ends in no usage
-pub no_usage_of : (answer : Result (Vec ℕ Global) ListingStop) → IsOfSome answer → answer ≢ Err stop.Usage
-no_usage_of answer it is = subst (λ (one : Result (Vec ℕ Global) ListingStop). IsOfSome one) is it
+pub no_usage_of : (answer : Result (Vec ℕ Global) ListingStop) → IsSomeIntervalListingAnswer answer → answer ≢ Err stop.Usage
+no_usage_of answer it is = subst (λ (one : Result (Vec ℕ Global) ListingStop). IsSomeIntervalListingAnswer one) is it

@@ -30,7 +30,7 @@ use Rattle.job_check.specs.declared.stop.CheckStop.{CheckStop}
 use Rattle.job_check.specs.declared.stop.CheckStop.TheVariants as check
 use Rattle.cell_listing.specs.IntervalFiles.{hidden_in, IsNoIntervalFile}
 use Rattle.cell_listing.specs.IntervalListings.{IsIntervalListingOf}
-use Rattle.cell_listing.specs.IntervalRuns.{file_fault, HasFileCause, IsFileRun, IsHeldAnswer, IsIntervalListingAnswer, IsIntervalsRun, IsListedWith, IsOfSome, IsSomeAcceptedAnswer, line_fault}
+use Rattle.cell_listing.specs.IntervalRuns.{file_fault, HasFileCause, IsFileRun, IsHeldAnswer, IsIntervalListingAnswer, IsIntervalsRun, IsListedWith, IsSomeIntervalListingAnswer, IsSomeAcceptedAnswer, line_fault}
 use Rattle.cell_listing.specs.Runs.{IsReleasedRun}
 use Rattle.cell_listing.specs.declared.stop.IntervalFault.{IntervalFault}
 use Rattle.cell_listing.specs.declared.stop.IntervalFault.TheVariants as fault
@@ -158,7 +158,7 @@ told_past (Ok released) read held (Ok listing) got answers = (got.accepted, answ
 told_past (Ok released) read held (Err why) got answers = (got.accepted, answers released got)
 told_past (Err fault) read held answer got answers = absurd got
 
-some_past : (answer : Result (Vec ℕ Global) IntervalFault) → IsSomeAcceptedAnswer answer → IsOfSome (map_fault stop.Intervals answer)
+some_past : (answer : Result (Vec ℕ Global) IntervalFault) → IsSomeAcceptedAnswer answer → IsSomeIntervalListingAnswer (map_fault stop.Intervals answer)
 some_past (Ok listing) it = it
 some_past (Err why) it = it
 

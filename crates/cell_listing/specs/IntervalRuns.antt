@@ -96,11 +96,11 @@ IsSomeAcceptedAnswer answer = (released : ReleasedFiles) × IsRightRelease relea
     × (held : Option (List ℕ)) × IsHeldAnswer released held answer
 
 -- the same, unless it is that of a check; it is never a usage
-abbrev pub IsOfSome : Result (Vec ℕ Global) ListingStop → Type 0
-IsOfSome (Ok bytes) = IsSomeAcceptedAnswer (Ok bytes)
-IsOfSome (Err (stop.Intervals why)) = IsSomeAcceptedAnswer (Err why)
-IsOfSome (Err (stop.Stopped check)) = Unit {0}
-IsOfSome (Err stop.Usage) = ⊥
+abbrev pub IsSomeIntervalListingAnswer : Result (Vec ℕ Global) ListingStop → Type 0
+IsSomeIntervalListingAnswer (Ok bytes) = IsSomeAcceptedAnswer (Ok bytes)
+IsSomeIntervalListingAnswer (Err (stop.Intervals why)) = IsSomeAcceptedAnswer (Err why)
+IsSomeIntervalListingAnswer (Err (stop.Stopped check)) = Unit {0}
+IsSomeIntervalListingAnswer (Err stop.Usage) = ⊥
 
 -- A listing of the job of this name with its release and the interval file of this name: its answer is what the told
 -- files come to, and the shelf was only looked at. Where a check doesn't accept the release, the run is that of a
@@ -108,7 +108,7 @@ IsOfSome (Err stop.Usage) = ⊥
 pub record IsIntervalsRun (name file : List ℕ) (answer : Result (Vec ℕ Global) ListingStop) (old new : ShelfState)
     : Type 0 where
   pub told : WhereTold old.files (λ fs. IsIntervalListingAnswer (released_of fs name) (fs file) answer)
-  pub of_some : IsOfSome answer
+  pub of_some : IsSomeIntervalListingAnswer answer
   pub refused : (check : CheckStop) → answer ≡ Err (stop.Stopped check) → IsReleasedRun name (Err check) old new
   pub cause : (why : IntervalFault) → answer ≡ Err (stop.Intervals why) → HasFileCause file why old new
   pub shelf : HasOnlyLooked output_limit old new

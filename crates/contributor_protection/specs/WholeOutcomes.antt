@@ -6,8 +6,9 @@ use Rattle.contributor_protection.specs.declared.guarding.GuardedCells.{GuardedC
 use Rattle.contributor_protection.specs.declared.guarding.GuardFailure.{GuardFailure}
 use Rattle.contributor_protection.specs.declared.guarding.GuardFailure.TheVariants as guard_failure
 
--- All denominators of the extra cells' worlds and needs are 1, or those of the multipliers that no hidden set guards, or
--- those of the extra cells until a stop, whose question stops short but for its size. Not: those of the certificate.
+-- All denominators of the extra cells' worlds and needs are 1, or those of the multipliers that refute an attack for the
+-- full set, or those of the extra cells until a stop, whose question stops short but for its size. Not: those of the
+-- certificate.
 abbrev pub IsWholeOutcome : Result GuardedCells GuardFailure → Type 0
 IsWholeOutcome (Ok guarded) = IsWholeExtra guarded.extra
 IsWholeOutcome (Err (guard_failure.CannotAgainst found)) = found.multipliers.den ≡ pos 1

@@ -50,7 +50,8 @@ pub struct GuardedCells {
 /// Why a hidden set isn't guarded against contributors.
 #[derive(Drop)]
 pub enum GuardFailure {
-    /// No hidden set guards against this attack, the first by row, then cell, then side, above before below.
+    /// Not even all cells that may be hidden guard against this attack, the first by row, then cell, then side, above
+    /// before below.
     CannotAgainst(UnguardedAttack),
     /// A question against a contributor stopped short, of a hidden set with all these repairs and without these cells.
     /// Never want of memory.
@@ -90,8 +91,8 @@ impl From<AllocError> for GuardFailure {
 /// hidden set. The costs are those of the kind that a job names, but for a cell's own price; a question takes at most
 /// `limit` improvements, 1 or more.
 ///
-/// It refuses where no hidden set guards against some contributor, where a question stopped short, and for want of
-/// memory.
+/// It refuses where not even all cells that may be hidden guard against some contributor, where a question stopped
+/// short, and for want of memory.
 ///
 /// Where the relations have signs all its denominators are 1, and no question stops short but for its size.
 ///

@@ -18,7 +18,6 @@ use Rattle.tableau.specs.RowLists.{list_size}
 use Rattle.tableau.proofs.Exchanges.{times_none}
 use Rattle.interval_audit.specs.declared.question.Question.{Question}
 use Rattle.interval_audit.specs.Columns.{rank, up_column, down_column}
-use Rattle.interval_audit.specs.FewerHidden.{cell_of_column}
 use Rattle.interval_audit.specs.Groups.{Group, members}
 use Rattle.interval_audit.specs.Labels.{Label, CapAbove, CapBelow, caps_for, forms_for, met_relations}
 use Rattle.interval_audit.specs.MovePairs.{IsMovePair, labels_of, left_over, places, pressure}
@@ -30,7 +29,7 @@ use Rattle.interval_audit.proofs.MoveRows.{column_above, column_down, column_lis
 use Rattle.interval_audit.proofs.MoveSums.{ReducedAt, reduced_at, two_sides}
 use Rattle.interval_audit.proofs.MoveWeights.{RowFits, asked_value, free, not_idle, row_fits, row_limit, weight_above, weight_at, weight_of, weight_stands}
 use Rattle.interval_audit.proofs.Ranks.{IsAt, member_at, rank-less}
-use Rattle.interval_audit.proofs.SmallerProblems.{AreGroups, carried, question_part, same_on, selection}
+use Rattle.interval_audit.proofs.SmallerProblems.{AreGroups, carried, question_part, same_on, selection, cell_of_column}
 use Rattle.interval_audit.proofs.Weights.{is_bounded}
 
 -- ---- the lists of columns and slacks

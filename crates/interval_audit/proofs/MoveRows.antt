@@ -14,7 +14,6 @@ use Rattle.sdc_base.specs.Systems.{Numbers}
 use Rattle.sdc_base.proofs.WholeNumbers.{times_up}
 use Rattle.tableau.specs.OptimalPairs.{IsNotBelowZeros}
 use Rattle.tableau.proofs.Exchanges.{times_none}
-use Rattle.interval_audit.specs.FewerHidden.{cell_of_column}
 use Rattle.interval_audit.specs.Groups.{Group}
 use Rattle.interval_audit.specs.Columns.{rank, up_column, down_column, moves_of, entries_of}
 use Rattle.interval_audit.specs.Labels.{Label, CapAbove, CapBelow, Form, Negated, is_met, form_at, fall}
@@ -25,7 +24,7 @@ use Rattle.interval_audit.proofs.LexSigns.{is_below, not_below, turned_not_below
 use Rattle.interval_audit.proofs.Moves.{found_inside, form_comes_to, terms_inside, moves_in, moves_out, cap_comes_to}
 use Rattle.interval_audit.proofs.Points.{meets}
 use Rattle.interval_audit.proofs.Shares.{rise_from}
-use Rattle.interval_audit.proofs.SmallerProblems.{cell_up, cell_down, rest_up, rest_down, same_on, found_met}
+use Rattle.interval_audit.proofs.SmallerProblems.{cell_up, cell_down, rest_up, rest_down, same_on, found_met, cell_of_column}
 use Rattle.interval_audit.proofs.Spread.{entries_are_value}
 use Rattle.interval_audit.proofs.Weights.{IsLabel}
 

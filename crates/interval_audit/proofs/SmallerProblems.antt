@@ -20,7 +20,6 @@ use Rattle.tableau.specs.declared.problem.LinRow.{LinRow}
 use Rattle.tableau.specs.PartProblems.{Selection, amounts_in_whole, amounts_in_part, IsPartOf, SelectsRows}
 use Rattle.tableau.specs.Problems as problems
 use Rattle.interval_audit.specs.declared.question.Question.{Question}
-use Rattle.interval_audit.specs.FewerHidden.{cell_of_column}
 use Rattle.interval_audit.specs.Groups.{Group, IsGroup, members}
 use Rattle.interval_audit.specs.Columns.{rank, up_column, down_column, moves_of, entries_of}
 use Rattle.interval_audit.specs.Labels.{Label, CapAbove, CapBelow, Form, Negated, caps_for, forms_for, is_met, met_relations, labels, form_at}
@@ -32,6 +31,10 @@ use Rattle.interval_audit.proofs.Points.{meets}
 use Rattle.interval_audit.proofs.Selecting.{passes_at, place_among, place_of, place_ascend, place_passes, place_within, among_within, place_stands, rows_match, rows_out, filter_both, filter_flat}
 use Rattle.interval_audit.proofs.Spread.{entries_are_value}
 use Rattle.interval_audit.proofs.Weights.{IsLabel, labels_are}
+
+-- the cell of a column
+abbrev pub cell_of_column : Group → ℕ → ℕ → ℕ
+cell_of_column group n column = slice_index (members group n) (column / 2)
 
 -- it is a column, and its cell isn't among the hidden ones
 abbrev pub is_left_out : List Bool → Group → ℕ → ℕ → Bool

@@ -1,5 +1,5 @@
 -- What tables of a question's problem say of the same question with fewer hidden cells (own).
-use Rattle.std.specs.Prelude.{◌≡◌, ℕ, ◌/◌, Bool, true, List, slice_index, FitsSigned, ◌*ℤ◌}
+use Rattle.std.specs.Prelude.{◌≡◌, ℕ, Bool, true, List, FitsSigned, ◌*ℤ◌}
 use Rattle.std.specs.Int.{w128}
 use Rattle.sdc_base.specs.declared.cell.Cell.{Cell}
 use Rattle.sdc_base.specs.declared.relation.Relation.{Relation}
@@ -13,11 +13,7 @@ use Rattle.worlds.specs.RefutationFaults.{IsGivenSum}
 use Rattle.interval_audit.specs.declared.question.Question.{Question}
 use Rattle.interval_audit.specs.declared.answer.Answer.TheVariants.{Stops}
 use Rattle.interval_audit.specs.Answers.{IsTrueAnswer, IsAnswerOf, IsWalkAnswer}
-use Rattle.interval_audit.specs.Groups.{Group, IsComponentOf, members}
-
--- the cell of a column
-abbrev pub cell_of_column : Group → ℕ → ℕ → ℕ
-cell_of_column group n column = slice_index (members group n) (column / 2)
+use Rattle.interval_audit.specs.Groups.{Group, IsComponentOf}
 
 -- The question's walk stops short with these multipliers, and so its answer has them where the relations have no signs.
 -- It is right if no number is wider than 128 bits when it is checked.

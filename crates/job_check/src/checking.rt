@@ -46,7 +46,8 @@ pub fn check_release<S: Shelf>(alloc: Global, shelf: &mut S, name: &Text) -> Res
     ensures came_to { WhereTold (S.state shelf.old).files (λ fs. (e : AnyStop) → result ≡ Err (CheckStop.Inputs e)
         → ReachedFile {X = Unit {0}} (ReleaseComesTo fs name.now) (Err e) fs (S.state shelf.new)) }
 
-    // The shelf was only looked at: its files stay, and each file was read to its end or its own limit at most.
+    // The shelf was only looked at: its files stay, and of the file that was looked for last no more was taken than up
+    // to its end, or within the limit for inputs with a fault or for files that were put.
     ensures shelf { HasOnlyLookedOn Release name.now (S.state shelf.old) (S.state shelf.new) }
     ensures cause { (e : AnyStop) → result ≡ Err (CheckStop.Inputs e)
         → HasCause {X = Unit {0}} (Err e) (S.state shelf.old) (S.state shelf.new) }
@@ -73,7 +74,8 @@ pub fn accepted_release<S: Shelf>(
     ensures came_to { WhereTold (S.state shelf.old).files (λ fs. (e : AnyStop) → result ≡ Err (CheckStop.Inputs e)
         → ReachedFile {X = Unit {0}} (ReleaseComesTo fs name.now) (Err e) fs (S.state shelf.new)) }
 
-    // The shelf was only looked at: its files stay, and each file was read to its end or its own limit at most.
+    // The shelf was only looked at: its files stay, and of the file that was looked for last no more was taken than up
+    // to its end, or within the limit for inputs with a fault or for files that were put.
     ensures shelf { HasOnlyLookedOn Release name.now (S.state shelf.old) (S.state shelf.new) }
     ensures cause { (e : AnyStop) → result ≡ Err (CheckStop.Inputs e)
         → HasCause {X = Unit {0}} (Err e) (S.state shelf.old) (S.state shelf.new) }

@@ -99,8 +99,8 @@ pub record AreReadyCells (marks : List Mark) (cells : List Cell) : Type 0 where
   pub levels : All HasLevelsInRange cells
   pub truths : map (λ mark. mark.facts.truth) marks ≡ map (λ cell. cell.truth) cells
 
--- The shelf was only looked at, and past the inputs of the job of this name only where these have no fault: where they
--- have one, no more was taken of any file than an input may have, and one byte. So each file was read by its own limit.
+-- The shelf was only looked at. Of the file that was looked for last, no more was taken than a file that was put may
+-- have, and one byte; and where the inputs of the job of this name have a fault, than an input may have, and one byte.
 pub record HasOnlyLookedOn (purpose : Purpose) (name : List ℕ) (old new : ShelfState) : Type 0 where
   pub only_looked : HasOnlyLooked output_limit old new
   pub inputs_limit : WhereTold old.files (λ fs. IsErr (settled_of purpose fs name) → HasOnlyLooked limit old new)

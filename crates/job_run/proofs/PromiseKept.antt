@@ -68,7 +68,7 @@ use Rattle.job_run.specs.Endings.{IsHidingRelease, IsReleaseBy}
 use Rattle.job_run.specs.GuardedReleases.{HasNoGuard, IsGuardedRelease, guarded_puts}
 use Rattle.job_run.specs.Promise.{AreRounded, AreTablesBy, AreTablesOf, CantBeGuarded, CantBeProtected, CantBeRounded, GuardedTables, GuardsEachCell, HasCellsByRules, IsPromiseOf, IsTrueOf, ProtectedTables, RoundedTables, StaysOpen, knows_cell, unknown_to, without}
 use Rattle.job_run.specs.Protections.{IsProtectionFor, IsSuppressedRelease}
-use Rattle.job_run.specs.Puts.{AllWhole, Put}
+use Rattle.job_run.specs.Puts.{AllWhole}
 use Rattle.job_run.specs.PutReleases.{Releases}
 use Rattle.job_run.specs.CommandRuns.{AgreesWith}
 use Rattle.job_run.specs.ReleaseRuns.{IsReleaseEnd, IsReleaseRunOf}
@@ -86,6 +86,7 @@ use Rattle.job_run.proofs.PromisedTables.{each-needed, permitted-set, permitted-
 use Rattle.job_run.proofs.PutFiles.{AreHeld, all-held, guarded-names, names, no-file-to-round, plain-names, some-before}
 use Rattle.job_run.proofs.SameSystem.{as-many-cells}
 use Rattle.job_run.proofs.ShownLaws.{truth-at}
+use Rattle.job_run.specs.declared.put.FilePut.{FilePut}
 
 -- ---- what was read
 
@@ -189,7 +190,7 @@ is-of files settled outcome are its =
 
 -- ---- what was put
 
-held-puts : (files out : Files) (name : List ℕ) (settled : SettledInputs) (puts : List Put) (old new : TrayState) → settled_of purpose.Release files name ≡ Ok settled → names_put settled.inputs.described.job ≡ names puts
+held-puts : (files out : Files) (name : List ℕ) (settled : SettledInputs) (puts : List FilePut) (old new : TrayState) → settled_of purpose.Release files name ≡ Ok settled → names_put settled.inputs.described.job ≡ names puts
     → AllWhole puts old new → new.files ≡ Some out → AreHeld out puts
 held-puts files out name settled puts old new read called whole is =
     let stated = job-read files name settled.inputs.described (described-read files name settled.inputs (inputs-read files name settled read)) in
@@ -207,7 +208,7 @@ protected-tables files out name settled release old new read sound whole told no
     let flags : List Bool = is.hidden_set.hidden.flags in
     let set = its.comes_to.verdict.0 in
     let shown : Name → Option ℤ = shown_in settled.inputs flags in
-    let put : AllWhole (puts_of settled.inputs shown is.certificate) old new = subst (λ (puts : List Put). AllWhole puts old new) is.puts whole in
+    let put : AllWhole (puts_of settled.inputs shown is.certificate) old new = subst (λ (puts : List FilePut). AllWhole puts old new) is.puts whole in
     let held = held-puts files out name settled (puts_of settled.inputs shown is.certificate) old new read (plain-names settled.inputs shown is.certificate sound.job.outputs none) put told in
     record {
       hidden = flags;
@@ -334,9 +335,9 @@ guarded-tables files out name settled release old new read sound whole told is =
     let extras : List ℕ = is.guarded.extra.cells in
     let larger : List Bool = hide_cells first extras in
     let shown : Name → Option ℤ = shown_in inputs is.guarded.hidden.flags in
-    let puts : List Put = guarded_puts inputs is.guards.line.file shown is.certificate is.guarded.extra in
+    let puts : List FilePut = guarded_puts inputs is.guards.line.file shown is.certificate is.guarded.extra in
     let held : AreHeld out puts = held-puts files out name settled puts old new read (guarded-names inputs is.guards.line shown is.certificate is.guarded.extra sound.job.outputs is.guards.named)
-    (subst (λ (all : List Put). AllWhole all old new) is.puts whole) told in
+    (subst (λ (all : List FilePut). AllWhole all old new) is.puts whole) told in
     record {
       hidden = larger;
       tables = record {
@@ -384,7 +385,7 @@ rounded-tables files out name settled release base old new read sound whole told
     let inputs : Inputs = settled.inputs in
     let shown : Name → Option ℤ = value_in inputs is.values in
     let none = no-file-to-round inputs.described.job.method inputs.described.bound.decimals base inputs.described.job.contributors rounds sound.job.contributors in
-    let put : AllWhole (puts_of inputs shown (rounded_certificate inputs)) old new = subst (λ (puts : List Put). AllWhole puts old new) is.puts whole in
+    let put : AllWhole (puts_of inputs shown (rounded_certificate inputs)) old new = subst (λ (puts : List FilePut). AllWhole puts old new) is.puts whole in
     let held = held-puts files out name settled (puts_of inputs shown (rounded_certificate inputs)) old new read (plain-names inputs shown (rounded_certificate inputs) sound.job.outputs none) put told in
     record { values = is.values; rounded = rounded-so inputs base is.values is.rounding; shown = tables-show out inputs shown sound.job.outputs held.1 }
 

@@ -17,17 +17,18 @@ use Rattle.office_io.specs.Files.{Files, files_after_put}
 use Rattle.job_inputs.specs.declared.inputs.Inputs.{Inputs}
 use Rattle.job_run.proofs.SecondRuns.{OfOthers, all-others}
 use Rattle.job_run.specs.GuardedReleases.{guarded_puts}
-use Rattle.job_run.specs.Puts.{Put, put_all}
+use Rattle.job_run.specs.Puts.{put_all}
 use Rattle.job_run.specs.Releases.{puts_of, tables_from}
 use Rattle.job_run.specs.Roundings.{base_in_units}
+use Rattle.job_run.specs.declared.put.FilePut.{FilePut}
 
 -- each put stands under its name
-abbrev pub AreHeld : Files → List Put → Type 0
-AreHeld files puts = AllByRecursion (λ (p : Put). files p.name ≡ Some p.bytes) puts
+abbrev pub AreHeld : Files → List FilePut → Type 0
+AreHeld files puts = AllByRecursion (λ (p : FilePut). files p.name ≡ Some p.bytes) puts
 
 -- the names of puts
-abbrev pub names : List Put → List (List ℕ)
-names puts = map (λ (p : Put). p.name) puts
+abbrev pub names : List FilePut → List (List ℕ)
+names puts = map (λ (p : FilePut). p.name) puts
 
 pub put-self : (files : Files) (name bytes : List ℕ) → files_after_put files name bytes name ≡ Some bytes
 put-self files name bytes = ap (λ (same : Bool). if same then Some bytes else files name) ((bytes_eq-Decides name name).1 refl)
@@ -35,12 +36,12 @@ put-self files name bytes = ap (λ (same : Bool). if same then Some bytes else f
 pub apart-names : (one other : List ℕ) → bytes_eq one other ≡ false → one ≢ other
 apart-names one other apart same = let yes : bytes_eq one other ≡ true = (bytes_eq-Decides one other).1 same in absurd cc
 
-pub apart-from : (name : List ℕ) (puts : List Put) → AllByRecursion (λ (other : List ℕ). bytes_eq name other ≡ false) (names puts) → OfOthers name puts
+pub apart-from : (name : List ℕ) (puts : List FilePut) → AllByRecursion (λ (other : List ℕ). bytes_eq name other ≡ false) (names puts) → OfOthers name puts
 apart-from name [] all = tt
 apart-from name (p ∷ puts) all = (apart-names name p.name all.0, apart-from name puts all.1)
 
 -- after puts of different names each stands under its name
-pub all-held : (puts : List Put) (out : Files) → IsDistinct bytes_eq (names puts) → AreHeld (put_all out puts) puts
+pub all-held : (puts : List FilePut) (out : Files) → IsDistinct bytes_eq (names puts) → AreHeld (put_all out puts) puts
 all-held [] out apart = tt
 all-held (p ∷ puts) out apart = (
   all-others p.name puts (files_after_put out p.name p.bytes) (apart-from p.name puts (IsDistinct-head bytes_eq p.name (names puts) apart)) ∙ put-self out p.name p.bytes,
@@ -67,7 +68,7 @@ guarded-names inputs line shown certificate extra many some =
     ap (λ (o : Option OutputLine). inputs.described.job.certificate ∷ contributors_files o ++ map (λ (o : OutputLine). o.file) inputs.described.job.outputs) some
     ∙ ap (λ (rest : List (List ℕ)). inputs.described.job.certificate ∷ line.file ∷ rest) (sym (table-names inputs shown 0 inputs.described.job.tables inputs.described.job.outputs many))
 
-pub some-before : (o : Option Files) (out : Files) (puts : List Put) → option_map (λ files. put_all files puts) o ≡ Some out → (before : Files) × (out ≡ put_all before puts)
+pub some-before : (o : Option Files) (out : Files) (puts : List FilePut) → option_map (λ files. put_all files puts) o ≡ Some out → (before : Files) × (out ≡ put_all before puts)
 some-before None out puts h = absurd cc
 some-before (Some before) out puts h = (before, let same : put_all before puts ≡ out = cc in sym same)
 

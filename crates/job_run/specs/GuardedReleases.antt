@@ -44,7 +44,7 @@ pub record IsGuardFor (settled : SettledInputs) (hidden_set : HiddenSet) (certif
       protects.job.described.job.steps hidden_set certificate outcome
   pub whole : IsOneOrTwoWay settled.inputs.records.trees settled.inputs.described.bound.tables → IsWholeOutcome outcome
 
--- no hidden set guards this cell to this side against the contributor at this row, while a hidden set protects
+-- the full set doesn't guard this cell to this side against the contributor at this row, while a hidden set protects
 pub record HasNoGuard (settled : SettledInputs) (row cell : ℕ) (side : Side) (multipliers : Multipliers)
     : Type 0 where
   pub hidden_set : HiddenSet

@@ -14,10 +14,6 @@ use Rattle.job_run.specs.declared.report.Report.{Report}
 use Rattle.job_run.specs.declared.report.Report.TheVariants as report
 use Rattle.job_run.specs.declared.report.Summary.{Summary}
 
--- a release as it is put: its files in their order, its numbers, and its certificate
-abbrev pub PutRelease : Type 0
-PutRelease = Release
-
 -- ---- of told files
 
 -- The tray holds this release of the told files: it is one of their settled inputs, and each of its files was put once,

@@ -6,10 +6,6 @@ use Rattle.office_io.specs.Trays.{TrayState, HasPut, HasPutInPart}
 use Rattle.job_inputs.specs.declared.file_ref.FileRef.{FileRef}
 use Rattle.job_run.specs.declared.put.FilePut.{FilePut}
 
--- a file that is put: which of a job it is, its name, and its bytes
-abbrev pub Put : Type 0
-Put = FilePut
-
 -- a folder after these puts, one after the other
 abbrev pub put_all : Files → List FilePut → Files
 put_all files [] = files

@@ -25,9 +25,9 @@ HaveOneFile =
     → IsFileOf intervals_of_tables shelved other
     → one ≡ other
 
--- Tables that have a file of their audit have no fault, whatever jobs of the settled inputs the two are read by. So they
--- are audited exactly where they aren't refused, but for a question without an answer.
-abbrev pub HaveAuditOrFault : Type 0
-HaveAuditOrFault =
+-- Tables that have a file of their audit have no fault, whatever jobs of the settled inputs the two are read by. So no
+-- tables are both audited and refused.
+abbrev pub AuditedHaveNoFault : Type 0
+AuditedHaveNoFault =
     (shelved : ShelvedTables) (file : AuditFile) (why : CheckFault) → IsFileOf audit_of_tables shelved file
     → ¬ AreRefusedFor audit_of_tables shelved why

@@ -1,7 +1,7 @@
 //! Laws of the intervals and audits of tables, each the contract of a function that does nothing.
 
 ghost use Rattle.published_tables.specs.HiddenLines.{flags_in};
-ghost use Rattle.published_tables.specs.Laws.{AreReadAlike, HaveAuditOrFault, HaveOneFile};
+ghost use Rattle.published_tables.specs.Laws.{AreReadAlike, AuditedHaveNoFault, HaveOneFile};
 ghost use Rattle.published_tables.specs.ShownValues.{values_read};
 
 use cell_intervals::file_is_one;
@@ -20,7 +20,7 @@ pub fn tables_have_one_file()
     file_is_one();
 }
 
-/// The tables of a job have a file of their audit or a fault, and never both.
-pub fn tables_are_audited_or_refused()
-    ensures { HaveAuditOrFault }
+/// Tables of a job that have a file of their audit have no fault.
+pub fn audited_tables_have_no_fault()
+    ensures { AuditedHaveNoFault }
 {}

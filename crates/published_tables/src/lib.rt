@@ -15,7 +15,7 @@ mod table_stop;
 
 pub use audit_file::AuditFile;
 pub use interval_file::IntervalFile;
-pub use laws::{tables_are_audited_or_refused, tables_are_read_alike, tables_have_one_file};
+pub use laws::{audited_tables_have_no_fault, tables_are_read_alike, tables_have_one_file};
 pub use shelved::{ShelvedJob, read_shelved};
 pub use table_audit::find_audit;
 pub use table_intervals::find_intervals;

@@ -58,7 +58,8 @@ pub fn find_audit<S: Shelf>(
     ensures came_to { WhereTold (S.state shelf.old).files
         (λ fs. ReachedFile (ComesFor Audit fs name.now out.now) (reading_of result) fs (S.state shelf.new)) }
 
-    // The shelf was only looked at: its files stay, and each file was read to its end or its own limit at most.
+    // The shelf was only looked at: its files stay, and of the file that was looked for last no more was taken than up
+    // to its end, or within the limit for inputs with a fault or for files that were put.
     ensures shelf { HasOnlyLookedOn Audit name.now (S.state shelf.old) (S.state shelf.new) }
 
     // That a file is absent or too long and a fault of the shelf have their cause, whatever the shelf tells.

@@ -7,8 +7,11 @@ use Rattle.csv.specs.Writing.{field_text as csv_text}
 use Rattle.sdc_base.specs.TableText.{comma, field_text, line_text, codes_of_place}
 use Rattle.sdc_base.specs.Trees.{Tree, code_in}
 use Rattle.sdc_base.specs.Cells.{trees_of}
-use Rattle.release_writer.specs.Lines.{begun_line}
 use Rattle.release_writer.proofs.CsvFields.{field-same}
+
+-- a line so far: the fields with commas between them
+abbrev pub begun_line : List (List ℕ) → List ℕ
+begun_line fields = join_with_byte comma (map field_text fields)
 
 joined-more : (x : List ℕ) (xs : List (List ℕ)) (y : List ℕ) → join_with_byte comma (x ∷ (xs ++ y ∷ [])) ≡ join_with_byte comma (x ∷ xs) ++ comma ∷ y
 joined-more x [] y = refl

@@ -1,11 +1,10 @@
 -- The lines of a release table, and the csv writer that writes them (own).
-use Rattle.std.specs.Prelude.{◌≡◌, ℕ, List, [], ◌∷◌, ◌++◌, length, map, drop, flat_map, Option, Some, false, Vec, option_map}
-use Rattle.std.specs.List.{join_with_byte}
+use Rattle.std.specs.Prelude.{◌≡◌, ℕ, List, [], ◌∷◌, ◌++◌, length, drop, flat_map, Option, Some, false, Vec, option_map}
 use Rattle.std.specs.declared.alloc.Global.{Global}
 use Rattle.csv.specs.declared.writer.Writer.{Writer}
 use Rattle.csv.specs.Writing.{default_writer, writer_setup, fields_written, has_written, text_written}
 use Rattle.sdc_base.specs.Cells.{places, trees_of}
-use Rattle.sdc_base.specs.TableText.{comma, field_text, line_text, codes_of_place, shown_text}
+use Rattle.sdc_base.specs.TableText.{line_text, codes_of_place, shown_text}
 use Rattle.linked_tables.specs.BookViews.{BookView}
 use Rattle.linked_tables.specs.BookCells.{name_in_table}
 use Rattle.release_writer.specs.ShownCells.{number_shown}
@@ -22,10 +21,6 @@ abbrev pub lines_below : BookView → List ℕ → ℕ → Shown → List ℕ �
 lines_below book table decimals how place =
     flat_map (λ rest. place_line book table decimals how (place ++ rest))
     (places (trees_of book.trees (drop (length place) table)))
-
--- a line so far: the fields with commas between them
-abbrev pub begun_line : List (List ℕ) → List ℕ
-begun_line fields = join_with_byte comma (map field_text fields)
 
 -- a csv writer over bytes in memory, with the defaults and between two lines
 pub record IsReadyWriter (writer : Writer (Vec ℕ Global)) : Type 0 where

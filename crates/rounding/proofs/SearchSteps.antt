@@ -5,14 +5,14 @@ use Rattle.sdc_base.specs.Systems.{number_at}
 use Rattle.rounding.specs.Neighbours.{is_multiple}
 use Rattle.rounding.specs.Choices.{Choices}
 use Rattle.rounding.specs.Extremes.{is_open}
-use Rattle.rounding.specs.Searches.{IsRoundingList, Stops, HasSeen, unrounded_count, after_in}
+use Rattle.rounding.specs.Searches.{IsRoundingList, Stops, HasSeen, unrounded_count}
 use Rattle.rounding.specs.Tasks.{IsProper}
 use Rattle.rounding.specs.Fixes.{by_fixes, FixedCells, allows}
 use Rattle.rounding.specs.PartialLists.{Step, choices_of, IsPartial, IsSameTask, LeadsTo, ahead_of}
 use Rattle.rounding.proofs.LeftSteps.{left_open, up_allowed, whole_left, none_extends, barred_extends, NoneExtends}
 use Rattle.rounding.proofs.Opening.{open_whole_rounds}
 use Rattle.rounding.proofs.PartialSteps.{IsNext, length-choices_of}
-use Rattle.rounding.proofs.SeenSteps.{nothing_seen, left_out, on_down, on_up, back_up, back_down, back_past, looked_stops, none_ahead}
+use Rattle.rounding.proofs.SeenSteps.{nothing_seen, left_out, on_down, on_up, back_up, back_down, back_past, looked_stops, none_ahead, after_in}
 
 -- what comes after a list and those that extend it
 abbrev pub after_of : FixedCells → Choices → List Choices

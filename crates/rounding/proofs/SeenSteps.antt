@@ -7,10 +7,14 @@ use Rattle.sdc_base.specs.Roundings.{IsRounding}
 use Rattle.rounding.specs.Choices.{Choices}
 use Rattle.rounding.specs.Extremes.{is_open}
 use Rattle.rounding.specs.Tasks.{IsProper}
-use Rattle.rounding.specs.Searches.{lists_from, lists_of, after_in, ahead_in, unrounded_count, IsRoundingList, Stops, HasSeen}
+use Rattle.rounding.specs.Searches.{lists_from, lists_of, ahead_in, unrounded_count, IsRoundingList, Stops, HasSeen, lists_after}
 use Rattle.rounding.proofs.SearchLemmas.{lists_few, ahead_open, after_up, after_down}
 use Rattle.rounding.proofs.Opening.{none_left}
 use Rattle.rounding.proofs.LeftSteps.{NoneExtends}
+
+-- what comes after a list and those that extend it, in the search
+abbrev pub after_in : System → List ℤ → ℤ → Choices → List Choices
+after_in system truths base list = lists_after (is_open system truths base) (unrounded_count truths base) [] list
 
 -- nothing has been seen
 pub nothing_seen : (system : System) (truths : List ℤ) (base : ℤ) → HasSeen system truths base 0 (ahead_in system truths base [])

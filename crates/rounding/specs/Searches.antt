@@ -37,10 +37,6 @@ lists_after opens left prefix (choice ∷ choices) =
 abbrev pub lists_ahead : (Choices → Bool) → ℕ → Choices → List Choices
 lists_ahead opens cells list = lists_from opens (cells - length list) list ++ lists_after opens cells [] list
 
--- what comes after a list and those that extend it, in the search
-abbrev pub after_in : System → List ℤ → ℤ → Choices → List Choices
-after_in system truths base list = lists_after (is_open system truths base) (unrounded_count truths base) [] list
-
 -- what comes from a list on, in the search
 abbrev pub ahead_in : System → List ℤ → ℤ → Choices → List Choices
 ahead_in system truths base list = lists_ahead (is_open system truths base) (unrounded_count truths base) list

@@ -10,10 +10,15 @@ use Rattle.tableau.specs.Tables.{Table}
 use Rattle.tableau.specs.declared.problem.Problem.{Problem}
 use Rattle.tableau.specs.Problems.{NamesColumns, variable_count}
 use Rattle.tableau.specs.RowLists.{Rises, IsBasis, Implies}
-use Rattle.tableau.specs.Walks.{IsTableOf, IsChain, bits_of, ChainsAreShort}
+use Rattle.tableau.specs.Walks.{IsTableOf, IsChain, ChainsAreShort}
 use Rattle.tableau.proofs.Bases.{basis_determines}
 use Rattle.tableau.proofs.Chains.{rising_is_transitive, rising_is_apart}
 use Rattle.tableau.proofs.Steps.{step_keeps}
+
+-- which of the numbers below this are among some, as bits
+abbrev pub bits_of : List ℕ → ℕ → ℕ
+bits_of others zero = 0
+bits_of others (suc v) = bits_of others v + (if list_any (λ other. other == v) others then 2 ^ v else 0)
 
 twice : (v : ℕ) → 2 ^ suc v ≡ 2 ^ v + 2 ^ v
 twice v = pow-suc 2 v ∙ omega arith

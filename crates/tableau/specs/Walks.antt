@@ -1,6 +1,5 @@
 -- Steps from table to table, and what each keeps (own).
-use Rattle.std.specs.Prelude.{◌≡◌, ◌≢◌, ◌⊎◌, ℕ, zero, suc, ◌+◌, ◌<◌, ◌≤◌, ◌^◌, ◌==◌, List, [], ◌∷◌, length, slice_index, ℤ, pos, ◌≤ℤ◌, if◌then◌else◌}
-use Rattle.std.specs.List.{list_any}
+use Rattle.std.specs.Prelude.{◌≡◌, ◌≢◌, ◌⊎◌, ℕ, zero, suc, ◌<◌, ◌≤◌, ◌^◌, List, [], ◌∷◌, length, slice_index, ℤ, pos, ◌≤ℤ◌}
 use Rattle.tableau.specs.Tables.{Table, HasShape}
 use Rattle.tableau.specs.declared.problem.Problem.{Problem}
 use Rattle.tableau.specs.Problems.{NamesColumns, IsTrueOf, BoundsAreFromZero, rows_of, variable_count, first_table}
@@ -40,11 +39,6 @@ abbrev pub StepGivesTable : Type 0
 StepGivesTable = (problem : Problem) (table after : Table) (row column : ℕ) (d : ℤ) → NamesColumns problem →
     IsTableOf problem table → IsStep problem table after row column d →
     IsTableOf problem after × Rises problem table after
-
--- which of the numbers below this are among some, as bits
-abbrev pub bits_of : List ℕ → ℕ → ℕ
-bits_of others zero = 0
-bits_of others (suc v) = bits_of others v + (if list_any (λ other. other == v) others then 2 ^ v else 0)
 
 -- a chain of tables, the last one first, each made by a step from the one before
 abbrev pub IsChain : Problem → List Table → Type 0

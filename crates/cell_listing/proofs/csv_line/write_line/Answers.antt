@@ -3,8 +3,8 @@ use Rattle.std.proofs.lemmas.List.{take_all, take_more}
 use Rattle.std.proofs.lemmas.Result.{on_ok_weaker}
 use Rattle.csv.specs.Writing.{default_writer, fields_written, next_sep}
 use Rattle.csv.specs.Writing.{field_text as csv_text}
-use Rattle.release_writer.specs.Lines.{begun_line, bytes_written}
-use Rattle.release_writer.proofs.BegunLines.{put-more, end-more, taken}
+use Rattle.release_writer.specs.Lines.{bytes_written}
+use Rattle.release_writer.proofs.BegunLines.{put-more, end-more, taken, begun_line}
 use Rattle.cell_listing.proofs.csv_line.write_line.Goals as goal
 
 pub fields-preserved : goal.fields-preserved

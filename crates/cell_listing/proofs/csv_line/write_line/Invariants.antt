@@ -1,7 +1,8 @@
 use Rattle.std.proofs.Common.{◌≡◌, ◌++◌, take, option_map}
 use Rattle.csv.specs.Writing.{default_writer, writer_setup, fields_written}
-use Rattle.release_writer.specs.Lines.{begun_line, bytes_written}
+use Rattle.release_writer.specs.Lines.{bytes_written}
 use Rattle.cell_listing.proofs.csv_line.write_line.Given as goal
+use Rattle.release_writer.proofs.BegunLines.{begun_line}
 
 abbrev pub invariant-fields : goal.invariant-fields
 invariant-fields l = record {

@@ -2,8 +2,8 @@ use Rattle.std.proofs.Common.{◌≡◌, ◌+◌, ◌<◌, ◌++◌, ◌∷◌, 
 use Rattle.std.proofs.lemmas.List.{take_more}
 use Rattle.csv.specs.Writing.{default_writer, fields_written, next_sep}
 use Rattle.csv.specs.Writing.{field_text as csv_text}
-use Rattle.release_writer.specs.Lines.{begun_line, bytes_written}
-use Rattle.release_writer.proofs.BegunLines.{put-more, first-shows, taken}
+use Rattle.release_writer.specs.Lines.{bytes_written}
+use Rattle.release_writer.proofs.BegunLines.{put-more, first-shows, taken, begun_line}
 use Rattle.release_writer.proofs.lines.write_names.Goals as goal
 
 pub names-preserved : goal.names-preserved

@@ -1,7 +1,8 @@
 use Rattle.std.proofs.Common.{◌≡◌, ◌++◌, ◌<◌, true, length, slice_index_or, [], take, option_map}
 use Rattle.csv.specs.Writing.{default_writer, writer_setup, fields_written, has_written}
-use Rattle.release_writer.specs.Lines.{begun_line, bytes_written}
+use Rattle.release_writer.specs.Lines.{bytes_written}
 use Rattle.release_writer.proofs.lines.write_names.Given as goal
+use Rattle.release_writer.proofs.BegunLines.{begun_line}
 
 abbrev pub invariant-names : goal.invariant-names
 invariant-names l = record {

@@ -5,8 +5,8 @@ use Rattle.csv.specs.Writing.{default_writer, fields_written, next_sep}
 use Rattle.csv.specs.Writing.{field_text as csv_text}
 use Rattle.sdc_base.specs.Cells.{trees_of}
 use Rattle.sdc_base.specs.TableText.{codes_of_place}
-use Rattle.release_writer.specs.Lines.{begun_line, bytes_written}
-use Rattle.release_writer.proofs.BegunLines.{put-more, end-more, codes-more, codes-length}
+use Rattle.release_writer.specs.Lines.{bytes_written}
+use Rattle.release_writer.proofs.BegunLines.{put-more, end-more, codes-more, codes-length, begun_line}
 use Rattle.release_writer.proofs.lines.write_place.Goals as goal
 
 pub codes-preserved : goal.codes-preserved

@@ -2,8 +2,9 @@ use Rattle.std.proofs.Common.{◌≡◌, ◌++◌, take, option_map}
 use Rattle.csv.specs.Writing.{default_writer, writer_setup, fields_written}
 use Rattle.sdc_base.specs.Cells.{trees_of}
 use Rattle.sdc_base.specs.TableText.{codes_of_place}
-use Rattle.release_writer.specs.Lines.{begun_line, bytes_written}
+use Rattle.release_writer.specs.Lines.{bytes_written}
 use Rattle.release_writer.proofs.lines.write_place.Given as goal
+use Rattle.release_writer.proofs.BegunLines.{begun_line}
 
 abbrev pub invariant-codes : goal.invariant-codes
 invariant-codes l = record {

@@ -1,5 +1,5 @@
 use Rattle.published_tables.proofs.AuditOrFault.{audit_or_fault}
-use Rattle.published_tables.proofs.laws.tables_are_audited_or_refused.Goals as goal
+use Rattle.published_tables.proofs.laws.audited_tables_have_no_fault.Goals as goal
 
 pub returns : goal.returns
 returns c = audit_or_fault
