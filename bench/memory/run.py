@@ -1,5 +1,5 @@
 #!/usr/bin/env python3
-"""Lets each call for memory of argus fail in turn, by a small library in front of the C library's.
+"""Lets each call for memory of argus and of `cells` fail in turn, by a small library in front of the C library's.
 
 usage: run.py [PROGRAM [JOB..]]
 
@@ -7,10 +7,11 @@ For each of the jobs below, or those whose titles are named, `run`, `check` of w
 `migrate` of its certificate must answer `memory` with status 7 and leave a whole front part of their files, or answer and leave what they do
 with ample memory; where there is no memory for the report's line, nothing is printed. No other file changes. A `run` that lacked memory
 within a question may put a certificate with other complete tables: then the tables are those of ample memory, and `check` accepts them with
-it; how many did so is printed. With ample memory each answer
-and each file has to be the one that is expected: the answers stand below, and the files are those of the examples (NAME.expected). It needs
-`python3` and `cc`; the program is that of `../../argus`, which builds it, where none is named. The status is 1 where a call does anything
-else. AT_ONCE in the environment is how many calls run side by side, one where nothing is said.
+it; how many did so is printed. Of one job the four listings of `cells` are tried too: a listing is printed whole with status 0, or none of
+it with the line `memory` and status 7. With ample memory each answer and each file has to be the one that is expected: the answers stand
+below, and the files and listings are those of the examples (NAME.expected). It needs `python3` and `cc`; the program is that of
+`../../argus`, which builds it, where none is named, and `cells` is beside it. The status is 1 where a call does anything else. AT_ONCE in
+the environment is how many calls run side by side, one where nothing is said.
 """
 
 import concurrent.futures
@@ -23,6 +24,7 @@ import tempfile
 HERE = os.path.dirname(os.path.abspath(__file__))
 TOP = os.path.dirname(os.path.dirname(HERE))
 PROGRAM = os.path.abspath(sys.argv[1]) if len(sys.argv) > 1 else os.path.join(TOP, "out", "argus")
+CELLS = os.path.join(os.path.dirname(PROGRAM), "cells")
 AT_ONCE = int(os.environ.get("AT_ONCE", "1"))
 RANGES, AUDIT, AGAIN = "ranges.csv", "audit.csv", "again.cert"
 
@@ -83,6 +85,12 @@ def hiding(job, puts, numbers):
     )
 
 
+def listing(job):
+    """The calls of `cells` for a job that hides, whose intervals stand; each is to print what is expected of it."""
+    kinds = (("cells", ()), ("relations", ("--relations",)), ("released", ("--released",)), ("intervals", ("--released", "--intervals", RANGES)))
+    return tuple((("cells", job, *options), (), job.replace(".job", f".{kind}.expected")) for kind, options in kinds)
+
+
 def rounding(job, puts, numbers, exposed, audit=AUDIT):
     """The calls for a job that rounds, of whose primary cells so many are exposed."""
     return (
@@ -105,7 +113,11 @@ MIGRATING = (
 JOBS = (
     ("first", example("first"), hiding("r1.job", ("t.cert", "t.csv"), (7, 0, 0, 3, 0, 0))),
     ("stated", example("stated"), hiding("stated.job", ("t.cert", "t.csv"), (6, 0, 0, 3, 0, 0))),
-    ("protected", example("protected"), hiding("turnover.job", ("turnover.cert", "turnover.csv"), (13, 0, 0, 9, 1, 4))),
+    (
+        "protected",
+        example("protected"),
+        (*hiding("turnover.job", ("turnover.cert", "turnover.csv"), (13, 0, 0, 9, 1, 4)), *listing("turnover.job")),
+    ),
     ("rounded", example("rounded"), rounding("turnover.job", ("turnover.cert", "turnover.csv"), (13, 0, 0, 9, 1, 0), 0)),
     ("by industry", BY_INDUSTRY, hiding("r.job", ("t.cert", "t.csv"), (9, 1, 2, 6, 2, 4))),
     ("four cells", FOUR, rounding("r.job", ("t.cert", "t.csv"), (4, 0, 0, 9, 8, 0), 2)),
@@ -122,24 +134,26 @@ JOBS = (
 
 
 def call(folder, words, names, library, **settings):
-    """The status, the output and the files of a call in a folder in which what it puts doesn't stand yet."""
+    """The status, the output and the files of a call in a folder in which what it puts doesn't stand yet; `cells` is the other program."""
     for name in names:
         if os.path.exists(os.path.join(folder, name)):
             os.remove(os.path.join(folder, name))
     environment = dict(os.environ, LD_PRELOAD=library, **settings)
-    done = subprocess.run([PROGRAM, *words], cwd=folder, env=environment, capture_output=True, check=False)
+    command = [CELLS, *words[1:]] if words[0] == "cells" else [PROGRAM, *words]
+    done = subprocess.run(command, cwd=folder, env=environment, stdout=subprocess.PIPE, stderr=subprocess.STDOUT, check=False)
     return done.returncode, done.stdout, held(folder)
 
 
-def is_fine(answer, ample, names):
-    """Whether a call answered as it may where a call for memory fails."""
+def is_fine(words, answer, ample, names):
+    """Whether a call answered as it may where a call for memory fails; only a report's line may be missing, never a listing."""
     status, output, files = answer
     put = [name for name in names if name in files]
     if any(files[name] != ample[2].get(name) for name in files) or len(files) != len(ample[2]) - len(names) + len(put):
         return False
     if status == 7:
         return output in (b"memory\n", b"") and put == list(names[: len(put)])
-    return status == ample[0] and output in (ample[1], b"") and files == ample[2]
+    lines = (ample[1],) if words[0] == "cells" else (ample[1], b"")
+    return status == ample[0] and output in lines and files == ample[2]
 
 
 def is_other_certificate(folder, words, answer, ample, names):
@@ -152,11 +166,13 @@ def is_other_certificate(folder, words, answer, ample, names):
     return subprocess.run([PROGRAM, "check", words[1]], cwd=folder, capture_output=True, check=False).stdout == b"accepted\n"
 
 
-def is_expected(ample, names, said):
-    """Whether a call with ample memory says this, and puts all its files, and those that are known as they should be."""
+def is_expected(words, ample, names, said):
+    """Whether a call with ample memory says this line, or the listing in the file of this name, and puts all its files, and those that are
+    known as they should be."""
     status, output, files = ample
+    printed = files[said] if words[0] == "cells" else said.encode() + b"\n"
     known = all(files.get(name) == files.get(name + ".expected", files.get(name)) for name in names)
-    return status == 0 and output == said.encode() + b"\n" and known and all(name in files for name in names)
+    return status == 0 and output == printed and known and all(name in files for name in names)
 
 
 def told(answer, ample):
@@ -171,7 +187,7 @@ def failing(folder, words, names, library, ample, numbers):
     bad, others = [], 0
     for number in numbers:
         answer = call(folder, words, names, library, FAIL_AT=str(number))
-        if is_fine(answer, ample, names):
+        if is_fine(words, answer, ample, names):
             continue
         if is_other_certificate(folder, words, answer, ample, names):
             others += 1
@@ -187,9 +203,10 @@ def tried(folder, title, words, names, said, library):
     with open(count_to, encoding="ascii") as source:
         calls = int(source.read())
     bad, others = 0, 0
-    if not is_expected(ample, names, said):
+    heading = f"{title}: {' '.join(words)}"
+    if not is_expected(words, ample, names, said):
         bad += 1
-        print(f"{title}: {words[0]}: with ample memory: {ample}")
+        print(f"{heading}: with ample memory: {ample}")
     with tempfile.TemporaryDirectory() as scratch, concurrent.futures.ThreadPoolExecutor(AT_ONCE) as pool:
         # Calls side by side have a folder each.
         shares = [(shutil.copytree(folder, os.path.join(scratch, str(k))), range(k + 1, calls + 1, AT_ONCE)) for k in range(AT_ONCE)]
@@ -197,9 +214,9 @@ def tried(folder, title, words, names, said, library):
             bad += len(found)
             others += more
             for number, answer in found:
-                print(f"{title}: {words[0]}: call {number}: {told(answer, ample)}")
+                print(f"{heading}: call {number}: {told(answer, ample)}")
     besides = f", {others} with another certificate, accepted" if others else ""
-    print(f"{title}: {words[0]}: {calls} calls for memory, each failing in turn: {ample[1].decode().strip()}{besides}", flush=True)
+    print(f"{heading}: {calls} calls for memory, each failing in turn: {said}{besides}", flush=True)
     return bad
 
 
