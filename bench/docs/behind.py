@@ -132,8 +132,13 @@ def named_in(text: str, module: Module, known: Dict[pathlib.Path, Module]) -> Li
 
 def behind(text: str, module: Module, known: Dict[pathlib.Path, Module]) -> Set[Definition]:
     """All definitions behind a text: those that it names, and those that these name."""
+    return with_theirs(named_in(text, module, known), known)
+
+
+def with_theirs(first: List[Definition], known: Dict[pathlib.Path, Module]) -> Set[Definition]:
+    """Some definitions, and all those that these name."""
     seen: Set[Definition] = set()
-    open_ = named_in(text, module, known)
+    open_ = list(first)
     while open_:
         one = open_.pop()
         if one not in seen:

@@ -2,12 +2,12 @@
 """Checks the pages: links and anchors, names in backticks, quoted definitions, command blocks with their outputs, each
 row of the tables of PROVED (definitions, files, clauses, proofs and tests that it names, and its length), that some row
 names each clause of a public function (`clauses.py` lists which row does), that each wrong body still fits its file, that
-MODEL names every module of definitions and has the promise and its counts as their scripts print them, that the manual's
-quick reference is whole and has below the right heading the word by which a statistician looks for the answer to each
-question of `questions.txt`, and the number of words of README. Blocks that call a companion (`start`, `page`, `seal`, ..)
-or several jobs at a time are run in a copy of their example, where the built programs are at hand as out/argus and
-out/cells; else a line says how many were left out. Prints what it finds, a line for each fault, and at last
-`pages: N faults`."""
+the contracts come to each definition (`uncited.py` lists those to which none does), that MODEL names every module of
+definitions and has the promise and its counts as their scripts print them, that the manual's quick reference is whole and
+has below the right heading the word by which a statistician looks for the answer to each question of `questions.txt`, and
+the number of words of README. Blocks that call a companion (`start`, `page`, `seal`, ..) or several jobs at a time are run
+in a copy of their example, where the built programs are at hand as out/argus and out/cells; else a line says how many were
+left out. Prints what it finds, a line for each fault, and at last `pages: N faults`."""
 
 import functools
 import os
@@ -21,6 +21,7 @@ sys.dont_write_bytecode = True
 import behind
 import clauses
 import promise
+import uncited
 import wrong_bodies
 
 TOP = os.path.dirname(os.path.dirname(os.path.dirname(os.path.abspath(__file__))))
@@ -466,12 +467,20 @@ def plain(text):
 
 
 def check_wrong_bodies(page):
-    """Each wrong body fits its file, and the page has the number of those that the gate tries."""
+    """Each wrong body fits its file, and the pages have the number of those that the gate tries, and of the others."""
     for name, why in wrong_bodies.unfit(TOP):
         fault(name, why)
-    tried, _ = wrong_bodies.counts(TOP)
-    if f"time, {tried} in all." not in read(page):
-        fault(page, f"doesn't say that the gate tries {tried} wrong bodies")
+    tried, others = wrong_bodies.counts(TOP)
+    if f"time, {tried} in all. The other {others} are in" not in read(page):
+        fault(page, f"doesn't say that the gate tries {tried} wrong bodies, and that there are {others} others")
+    if f"| {others} wrong bodies by crate" not in read("bench/README.md"):
+        fault("bench/README.md", f"doesn't say that there are {others} wrong bodies outside the gate")
+
+
+def check_cited():
+    """Some contract comes to each definition."""
+    for name in uncited.uncited():
+        fault(name, "no contract comes to this definition")
 
 
 def check_questions(page):
@@ -546,6 +555,7 @@ def main():
     check_many("docs/MANUAL.md")
     check_questions("docs/MANUAL.md")
     check_wrong_bodies("bench/WRONG_BODIES.md")
+    check_cited()
     check_reference("docs/MANUAL.md")
     for page in PAGES:
         check_gone(page)
