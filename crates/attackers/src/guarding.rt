@@ -39,8 +39,9 @@ use worlds::Protected;
 /// without what the contributor knows takes the cell as far as its level. A world at hand serves too, where it takes
 /// the cell as far and moves no cell that the contributor knows. Where none does, multipliers show it, and among the
 /// free cells that aren't hidden, aren't known to the contributor and count in them, the one of lowest price, then of
-/// lowest number, is hidden too, as an extra cell; and the question is asked again. Where there is no such cell, no
-/// hidden set guards against the contributor there: the answer is `CannotAgainst`, with these multipliers.
+/// lowest number, is hidden too, as an extra cell; and the question is asked again. Where there is no such cell, not
+/// even all cells that may be hidden guard against the contributor there: the answer is `CannotAgainst`, with these
+/// multipliers.
 ///
 /// Then each extra cell is tried as shown, in ascending order: where all questions are reached the cell is dropped; else
 /// it stays hidden, and the first refutation is kept as its need. The answer is `Guards`, with the worlds that serve

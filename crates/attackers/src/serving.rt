@@ -153,8 +153,8 @@ pub(crate) fn answer_against(
     }
 }
 
-// What the answer about the attack at a place comes to: its world is kept, or else a cell is hidden, or no hidden set
-// guards against it.
+// What the answer about the attack at a place comes to: its world is kept, or else a cell is hidden, or the full set
+// doesn't guard against it.
 fn step_by(
     alloc: Global,
     task: &ContributorTask<'_>,

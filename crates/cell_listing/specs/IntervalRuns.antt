@@ -104,7 +104,7 @@ IsSomeIntervalListingAnswer (Err stop.Usage) = ⊥
 
 -- A listing of the job of this name with its release and the interval file of this name: its answer is what the told
 -- files come to, and the shelf was only looked at. Where a check doesn't accept the release, the run is that of a
--- listing of the release, and no more was read.
+-- listing of the release.
 pub record IsIntervalsRun (name file : List ℕ) (answer : Result (Vec ℕ Global) ListingStop) (old new : ShelfState)
     : Type 0 where
   pub told : WhereTold old.files (λ fs. IsIntervalListingAnswer (released_of fs name) (fs file) answer)

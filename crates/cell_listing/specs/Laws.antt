@@ -42,7 +42,7 @@ abbrev pub ListingsCountAsReports : Type 0
 ListingsCountAsReports =
     (settled : SettledInputs) (job : ClassifiedJob) → IsReadyJob job → IsSettledOf settled job → CountsAsReport settled
 
--- where a release shows a cell, it shows what stands as the value in the cell's line
+-- where a release that hides cells shows one, it shows what stands as the value in the cell's line
 abbrev pub ShownAreValues : Type 0
 ShownAreValues =
     (settled : SettledInputs) (job : ClassifiedJob) (flags : List Bool) (number decimals : ℕ) (cell : ListedCell)

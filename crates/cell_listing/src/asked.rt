@@ -21,8 +21,7 @@ use std::alloc::Global;
 /// `--released` behind the name, that of [`list_released`], and with `--intervals` and the name of a file behind that,
 /// the one of [`list_intervals`]; with `--relations` behind the name, that of [`list_relations`]. Nothing is put.
 ///
-/// Other words are `Usage`, which looks at no file; else each answer is that of the call. Its cost is theirs too. The
-/// words are argus's own.
+/// Other words are `Usage`; else each answer is that of the call. Its cost is theirs too. The words are argus's own.
 pub fn list_asked<S: Shelf>(
     alloc: Global,
     words: &[Text],

@@ -22,15 +22,14 @@ const OUTPUT_LIMIT: u64 = 1_152_921_504_606_846_976;
 /// its hidden cells, which stand under the name `file`, from the shelf.
 ///
 /// The release is read and judged as by [`list_released`](crate::list_released), and what refuses it there is `Stopped`
-/// here; then `file` isn't looked at. A release that is accepted has its interval file read, which has at most `2^60`
-/// bytes: `Intervals` says that it isn't there, that it is too long, that the shelf failed at it, or the first line,
-/// from 1, that isn't as it must be. As `argus intervals` writes it, it has the line `cell,low,high` and then for each
-/// cell that the certificate or the contributors' file hides, in ascending order of their numbers, a line with its
-/// number and both ends: a whole number of units from 0, without zeros in front, or two such numbers with a slash between
-/// them, the second above 1, or for the upper end the word `open`; each number is below `2^127`, LF ends each line, and
-/// nothing else stands there. Whether a fraction is in lowest terms isn't looked at, nor that the intervals are right.
-/// Want of memory past the check is `Intervals` too, so a run that comes to `Stopped` read no more than a check. `Usage`
-/// never comes. Nothing is put.
+/// here. A release that is accepted has its interval file read, which has at most `2^60` bytes: `Intervals` says that
+/// it isn't there, that it is too long, that the shelf failed at it, or the first line, from 1, that isn't as it must
+/// be. As `argus intervals` writes it, it has the line `cell,low,high` and then for each cell that the certificate or
+/// the contributors' file hides, in ascending order of their numbers, a line with its number and both ends: a whole
+/// number of units from 0, without zeros in front, or two such numbers with a slash between them, the second above 1,
+/// or for the upper end the word `open`; each number is below `2^127`, LF ends each line, and nothing else stands
+/// there. Whether a fraction is in lowest terms isn't looked at, nor that the intervals are right. `Intervals` comes
+/// only where the release is accepted, also that of want of memory; `Usage` never comes. Nothing is put.
 ///
 /// The cost is that of a check, of the listing and of the file's bytes, which are kept in memory with its ranges. The
 /// order is argus's own.

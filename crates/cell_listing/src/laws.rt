@@ -14,8 +14,8 @@ pub fn prices_are_costs()
     ensures { PricesAreCosts }
 {}
 
-/// A listing has as many cells, and as many primary ones, as the report of a release counts, and where a release shows a
-/// cell, it shows the value in its line.
+/// A listing has as many cells, and as many primary ones, as the report of a release counts, and where a release that
+/// hides cells shows one, it shows the value in its line.
 pub fn listings_are_of_releases()
     ensures counts { ListingsCountAsReports }
     ensures values { ShownAreValues }

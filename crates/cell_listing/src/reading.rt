@@ -15,9 +15,9 @@ use std::alloc::Global;
 /// The bytes of the listing of the job of this name, from the shelf.
 ///
 /// The job's inputs are read up to its settled cells, as for a release, and the first fault is the answer, the same as
-/// that of a release. Where the shelf fails at a file, the answer is `ReadFault` with the file; want of memory is
-/// `Memory`. The cost is that of reading each file once, with the records kept in memory; one look-up for each record
-/// and table, one look at each cell for each table and rule, and the length of the text. The order is argus's own.
+/// that of a release. `ReadFault` names a file at which the shelf failed; want of memory is `Memory`. The cost is that
+/// of reading each file once, with the records kept in memory; one look-up for each record and table, one look at each
+/// cell for each table and rule, and the length of the text. The order is argus's own.
 pub fn list_job<S: Shelf>(alloc: Global, shelf: &mut S, name: &Text) -> Result<Vec<u8>, InputStop>
     ensures looked { ReadsFiles (ListsJob name.now) (λ fs. InputsComeTo Purpose.Release fs name.now) IsSoundByItsType
         limit result (S.state shelf.old) (S.state shelf.new) }

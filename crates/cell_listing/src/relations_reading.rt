@@ -15,10 +15,10 @@ use std::alloc::Global;
 /// The bytes of the listing of the relations between the cells of the job of this name, from the shelf.
 ///
 /// The job's inputs are read up to its settled cells, as for a release, and the first fault is the answer, the same as
-/// that of a release; so there is such a listing exactly where there is one of the cells. Where the shelf fails at a
-/// file, the answer is `ReadFault` with the file; want of memory is `Memory`. The cost is that of reading each file once,
-/// with the records kept in memory, and that of [`relations_listing_for`](crate::relations_listing_for). The order is
-/// argus's own.
+/// that of a release; so told files of a shelf that doesn't fail have such a listing exactly where they have one of
+/// the cells, unless memory runs out. `ReadFault` names a file at which the shelf failed; want of memory is `Memory`.
+/// The cost is that of reading each file once, with the records kept in memory, and that of
+/// [`relations_listing_for`](crate::relations_listing_for). The order is argus's own.
 pub fn list_relations<S: Shelf>(
     alloc: Global,
     shelf: &mut S,

@@ -28,7 +28,7 @@ pub enum ProtectionOutcome<'a> {
         protected: Protected<'a>,
         certificate: Certificate,
     },
-    /// No hidden set protects this cell to this side.
+    /// No permitted hidden set protects this cell to this side.
     Cannot(UnprotectedCell),
     /// A question stopped short, so nothing is known.
     Undecided(Stopped),

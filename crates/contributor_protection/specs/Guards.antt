@@ -79,8 +79,8 @@ pub record StopsAgainst (c : Case) (prices : List ℕ) (soles : List (Option ℕ
   pub stops : StopsFor c soles prices (attacks_of c.cells soles) protected.hidden.flags limit stopped.fault against.row
       against.extras against.dropped
 
--- What guarding a protected hidden set against those that alone make up cells comes to: it is guarded, or no hidden set
--- guards against a contributor, or a question stopped short.
+-- What guarding a protected hidden set against those that alone make up cells comes to: it is guarded, or the full set
+-- doesn't guard against a contributor, or a question stopped short.
 abbrev pub ComesToGuard : Case → List ℕ → List (Option ℕ) → ℕ → HiddenSet → Certificate
     → Result GuardedCells GuardFailure → Type 0
 ComesToGuard c prices soles limit protected certificate (Ok guarded) =

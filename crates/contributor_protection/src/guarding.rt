@@ -54,7 +54,6 @@ pub enum GuardFailure {
     /// before below.
     CannotAgainst(UnguardedAttack),
     /// A question against a contributor stopped short, of a hidden set with all these repairs and without these cells.
-    /// Never want of memory.
     Undecided { stopped: Stopped, against: Against },
     /// There was no memory.
     Memory,
@@ -94,7 +93,9 @@ impl From<AllocError> for GuardFailure {
 /// It refuses where not even all cells that may be hidden guard against some contributor, where a question stopped
 /// short, and for want of memory.
 ///
-/// Where the relations have signs all its denominators are 1, and no question stops short but for its size.
+/// Where the relations have signs, no question stops short but for its size, and all denominators that it finds are 1:
+/// of worlds, needs and reasons of the extra cells, and of the multipliers of `CannotAgainst`. Nothing is said of those
+/// of the certificate.
 ///
 /// The cost is that of finding who is alone, one look-up for each record and table, and of the questions. That a lone
 /// contributor knows its cell is the handbook's, extra cells are argus's own.

@@ -19,12 +19,13 @@ use std::alloc::Global;
 /// Whether the certificate and the tables that stand on the shelf under the names of a job are a release of the job,
 /// whoever made them.
 ///
-/// The inputs of the job of this name are read up to its settled cells, as for a release, then the certificate, then the
-/// contributors' file where the job names one, and then the tables in the order of the job; the first fault is the
+/// The inputs of the job of this name are read up to its settled cells, as for a release, then the certificate, then
+/// the contributors' file where the job names one, and then the tables in the order of the job; the first fault is the
 /// answer. Then the certificate and the tables are judged by the relations between the cells, by the cells, and by the
-/// trail that the job's method makes: the first fault that `cert_check` names in its order is `NotAccepted`. Where there
-/// is none, `Ok` says that the cells which the tables hide are protected, as the certificate shows, or that the tables
-/// are a rounding to the job's base. Want of memory is `Inputs`. Nothing is written, and no question is asked.
+/// trail that the job's method makes: the first fault that `cert_check` names in its order is `NotAccepted`. Where
+/// there is none, `Ok` says that the cells which the tables hide protect every primary cell, as the certificate shows,
+/// or that the tables are a rounding to the job's base. Want of memory is `Inputs`. Nothing is written, and no question
+/// is asked.
 ///
 /// Where the job names a contributors' file, the certificate is judged for its own hidden set, whatever the tables show;
 /// its fault is `NotAccepted`. So is then the first line of a table that doesn't hide exactly that set and the extra

@@ -8,9 +8,10 @@ use sdc_base::Memory;
 pub enum CheckStop {
     /// The inputs, the certificate or the tables were not read to their end, or there was no memory.
     Inputs(InputStop),
-    /// The release with its certificate has this fault, the first one, which is never want of memory.
+    /// The release with its certificate has this fault, the first one; where the files are told, never want of memory.
     NotAccepted(CheckFault),
-    /// The extra cells against contributors have this fault, the first one, which is never want of memory.
+    /// The extra cells against contributors have this fault, the first one; where the files are told, never want of
+    /// memory.
     NotGuarded(ExtraFault),
 }
 

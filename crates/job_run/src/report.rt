@@ -76,17 +76,17 @@ pub enum Report {
     Usage,
     /// The inputs have this fault, and nothing was put.
     Refused(Fault),
-    /// The job hides cells, and no hidden set protects this cell to this side, the first such pair: the multipliers
-    /// refute it with all cells hidden that may be. Cells are numbered from 0. Nothing was put.
+    /// The job hides cells, and no permitted hidden set protects this cell to this side, the first such pair: the
+    /// multipliers refute it with all cells hidden that may be. Cells are numbered from 0. Nothing was put.
     Cannot {
         cell: u32,
         side: Side,
         multipliers: Multipliers,
     },
-    /// The job names a file for contributors, and a hidden set protects every primary cell, but none guards this cell to
-    /// this side against the contributor at this row, the first such row, cell and side: the multipliers refute it with
-    /// all cells hidden that may be but those that the contributor knows. Rows are numbered from 0 among those that
-    /// weren't skipped. Nothing was put.
+    /// The job names a file for contributors, and a hidden set protects every primary cell, but no permitted one guards
+    /// this cell to this side against the contributor at this row, the first such row, cell and side: the multipliers
+    /// refute it with all cells hidden that may be but those that the contributor knows. Rows are numbered from 0 among
+    /// those that weren't skipped. Nothing was put.
     CannotAgainst {
         row: u32,
         cell: u32,
@@ -95,16 +95,17 @@ pub enum Report {
     },
     /// The job rounds, and no numbers at all are a rounding of its truths to its base. Nothing was put.
     NoRounding,
-    /// The certificate and the tables that stand under the job's names have this fault; for intervals and an audit,
-    /// the tables do. Never want of memory. Nothing was put.
+    /// The certificate and the tables that stand under the job's names have this fault; for intervals and an audit, the
+    /// tables do. Where the files are told, never want of memory. Nothing was put.
     NotAccepted(CheckFault),
-    /// The certificate and the tables that stand under the job's names are a release of it, but the file of its
-    /// contributors has this fault. Never want of memory. Nothing was put.
-    NotGuarded(ExtraFault),
-    /// A question stopped short, after these repairs and with these cells shown again, ascending, of which the last was
-    /// being tried; or the search for a rounding did, and both lists are empty. Where it is a question against a
-    /// contributor, the repairs and the shown cells are all those of the hidden set that is to be guarded. Nothing was
+    /// The certificate shows that its own hidden set protects, and the tables hide exactly that set and the extra
+    /// cells, but the file of contributors has this fault. Where the files are told, never want of memory. Nothing was
     /// put.
+    NotGuarded(ExtraFault),
+    /// A question stopped short, after these repairs and with these cells shown again, ascending, the last of which may
+    /// be one that was being tried; or the search for a rounding did, or a question of intervals or an audit, and both
+    /// lists are empty. Where it is a question against a contributor, the repairs and the shown cells are all those of the
+    /// hidden set that is to be guarded. Nothing was put.
     Undecided {
         stuck: Stuck,
         repairs: Items<Refuted>,

@@ -37,10 +37,10 @@ use std::alloc::Global;
 ///
 /// Of a job its metadata, the code lists and hierarchies of its spanning variables and its microdata are looked at in
 /// this order, then the number of cells, the a priori files by table, the cells with what is stated of them, and
-/// whether a put would take the name of an input; for `check` then the certificate, and for `check`, `intervals` and
-/// `audit` the tables. The first fault is the answer. `intervals` refuses a job that rounds as soon as it is read, and
-/// `audit` one that doesn't. The microdata are read in pieces, every other file whole. All that is put is made before
-/// the first put.
+/// whether a put would take the name of the job's own file, or for `intervals` and `audit` that of any file which the
+/// job names; for `check` then the certificate, and for `check`, `intervals` and `audit` the tables. The first fault is
+/// the answer. `intervals` refuses a job that rounds as soon as it is read, and `audit` one that doesn't. The microdata
+/// are read in pieces, every other file whole. All that is put is made before the first put.
 ///
 /// A job that hides comes to a release, to a cell that can't be protected, or to a question that stopped short; where
 /// it names a file for contributors, its hidden set is also guarded against each record's contributor that alone makes

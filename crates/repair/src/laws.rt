@@ -16,7 +16,8 @@ pub fn questions_are_in_order()
     ensures { QuestionsAreInOrder }
 {}
 
-/// The multipliers of a table that can't be improved where fewer cells are hidden are those of the question's answer there.
+/// Where a system has no signs, the multipliers with which the walk of a level's question stops are those that the
+/// question is given, unless a number is wider than 128 bits when they are checked.
 pub fn stopped_are_given()
     ensures { StoppedAreGiven }
 {}

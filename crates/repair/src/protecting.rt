@@ -36,8 +36,8 @@ use worlds::{Protected, Refuted, World};
 /// The primary cells and the corners of the trail are hidden first. Then the primary cells are asked about in ascending
 /// order, above before below: whether some world for the hidden set takes the cell as far as its level. Where none
 /// does, multipliers show it, and among the free shown cells that count in them the one of lowest price, then of lowest
-/// number, is hidden too; that is a repair, and the question is asked again. Where there is no such cell, no hidden set
-/// protects the cell to that side: the verdict is `Cannot`, with the multipliers that stopped this question.
+/// number, is hidden too; that is a repair, and the question is asked again. Where there is no such cell, no permitted
+/// hidden set protects the cell to that side: the verdict is `Cannot`, with the multipliers that stopped this question.
 ///
 /// Then each hidden free cell is tried as shown, in ascending order. The questions are gone through in their order, and
 /// one is asked, with the cell shown, where neither its kept world nor the last that a trial found for it moves hidden

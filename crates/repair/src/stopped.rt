@@ -14,7 +14,7 @@ pub struct Stopped {
     pub fault: AskFault,
     /// The repairs so far.
     pub repairs: Items<Refuted>,
-    /// The cells that were shown again, ascending; the last was being tried.
+    /// The cells that were shown again, ascending; the last may be one that was being tried.
     pub shown: Items<u32>,
 }
 

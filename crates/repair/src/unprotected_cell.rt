@@ -1,7 +1,7 @@
 use sdc_base::Side;
 use worlds::Multipliers;
 
-/// A cell that no hidden set protects to a side.
+/// A cell that no permitted hidden set protects to a side.
 #[derive(Drop)]
 pub struct UnprotectedCell {
     /// Its number, from 0.
