@@ -21,6 +21,14 @@ use Rattle.job_run.specs.Puts.{put_all}
 use Rattle.job_run.specs.Releases.{puts_of, tables_from}
 use Rattle.job_run.specs.Roundings.{base_in_units}
 use Rattle.job_run.specs.declared.put.FilePut.{FilePut}
+use Rattle.job_run.specs.declared.put.Release.{Release}
+
+-- a file that is put, and a release as it is put, by names that other crates can use
+abbrev pub Put : Type 0
+Put = FilePut
+
+abbrev pub PutRelease : Type 0
+PutRelease = Release
 
 -- each put stands under its name
 abbrev pub AreHeld : Files → List FilePut → Type 0

@@ -55,7 +55,7 @@ use Rattle.job_check.specs.GuardedReleases.{guarded_fault, AreSolesOf}
 use Rattle.job_check.specs.ReleaseFiles.{ReleasedFiles, released_of, released_with}
 use Rattle.job_check.specs.declared.stop.CheckStop.{CheckStop}
 use Rattle.job_check.specs.declared.stop.CheckStop.TheVariants as check
-use Rattle.job_run.proofs.PutFiles.{AreHeld, all-held, guarded-names, names, no-file-to-round, ok-same, plain-names, some-before}
+use Rattle.job_run.proofs.PutFiles.{AreHeld, Put, PutRelease, all-held, guarded-names, names, no-file-to-round, ok-same, plain-names, some-before}
 use Rattle.job_run.proofs.SameBook.{still-book}
 use Rattle.job_run.proofs.Showing.{hidden-shown, values-shown}
 use Rattle.job_run.proofs.TableSteps.{as-many}
@@ -74,21 +74,19 @@ use Rattle.release_laws.proofs.SameInputs.{settled-same}
 use Rattle.release_laws.specs.Laws.{GuardingIsAccepted, WrittenIsAccepted}
 use Rattle.release_laws.specs.RoundingLaws.{WrittenRoundingIsAccepted}
 use Rattle.release_laws.specs.RunLaws.{IsShort, PutsAreAccepted, RunsAreAccepted}
-use Rattle.job_run.specs.declared.put.FilePut.{FilePut}
-use Rattle.job_run.specs.declared.put.Release.{Release}
 
 -- ---- the files of puts
 
 -- no put is too long
-abbrev AreShort : List FilePut → Type 0
-AreShort puts = AllByRecursion (λ (p : FilePut). length p.bytes ≤ output_limit) puts
+abbrev AreShort : List Put → Type 0
+AreShort puts = AllByRecursion (λ (p : Put). length p.bytes ≤ output_limit) puts
 
 -- where other files agree with these under the names, they hold the puts too
-held-too : (puts : List FilePut) (out held : Files) → AllByRecursion (λ (name : List ℕ). held name ≡ out name) (names puts) → AreHeld out puts → AreHeld held puts
+held-too : (puts : List Put) (out held : Files) → AllByRecursion (λ (name : List ℕ). held name ≡ out name) (names puts) → AreHeld out puts → AreHeld held puts
 held-too [] out held same are = tt
 held-too (p ∷ puts) out held same are = (same.0 ∙ are.0, held-too puts out held same.1 are.1)
 
-are-short : (puts : List FilePut) (out : Files) → AllByRecursion (λ (name : List ℕ). IsShort (out name)) (names puts) → AreHeld out puts → AreShort puts
+are-short : (puts : List Put) (out : Files) → AllByRecursion (λ (name : List ℕ). IsShort (out name)) (names puts) → AreHeld out puts → AreShort puts
 are-short [] out short are = tt
 are-short (p ∷ puts) out short are = (subst IsShort are.0 short.0, are-short puts out short.1 are.1)
 
@@ -103,7 +101,7 @@ read-whole f files name bytes is short = ap (whole_file f) is ∙ fits f bytes s
 
 -- the bytes of tables that stand under the names of outputs
 tables-read : (files : Files) (inputs : Inputs) (shown : Name → Option ℤ) (t : ℕ) (lines : List TableLine) (outputs : List OutputLine) → length outputs ≡ length lines → AreHeld files (tables_from inputs shown t lines outputs)
-    → AreShort (tables_from inputs shown t lines outputs) → bytes_from files t outputs ≡ Ok (map (λ (p : FilePut). p.bytes) (tables_from inputs shown t lines outputs))
+    → AreShort (tables_from inputs shown t lines outputs) → bytes_from files t outputs ≡ Ok (map (λ (p : Put). p.bytes) (tables_from inputs shown t lines outputs))
 unfolding bytes_from
 tables-read files inputs shown t [] [] many are short = refl
 tables-read files inputs shown t [] (output ∷ outputs) many are short = absurd (omega (arith, many))
@@ -113,7 +111,7 @@ tables-read files inputs shown t (line ∷ lines) (output ∷ outputs) many are 
 
 -- the bytes of the tables of a release
 abbrev table_bytes : Inputs → (Name → Option ℤ) → List (List ℕ)
-table_bytes inputs shown = map (λ (p : FilePut). p.bytes) (tables_from inputs shown 0 inputs.described.job.tables inputs.described.job.outputs)
+table_bytes inputs shown = map (λ (p : Put). p.bytes) (tables_from inputs shown 0 inputs.described.job.tables inputs.described.job.outputs)
 
 -- a release that stands under the names of its job is read
 plain-read : (files : Files) (name : List ℕ) (settled : SettledInputs) (shown : Name → Option ℤ) (certificate : Certificate) → settled_of purpose.Release files name ≡ Ok settled
@@ -158,7 +156,7 @@ ShowsSame inputs book shown by =
 -- those from table t on
 texts-from : (inputs : Inputs) (book : BookView) (shown : Name → Option ℤ) (by : ℕ → Option ℤ) (t : ℕ) (rest : List (List ℕ)) (lines : List TableLine) (outputs : List OutputLine) → ShowsSame inputs book shown by
     → length rest ≡ length lines → length outputs ≡ length lines → t + length rest ≤ length book.tables → ((k : ℕ) → k < length rest → slice_index_or book.tables (t + k) [] ≡ slice_index_or rest k [])
-    → AreTexts book inputs.described.bound.decimals by rest (map names_of lines) (map (λ (p : FilePut). p.bytes) (tables_from inputs shown t lines outputs))
+    → AreTexts book inputs.described.bound.decimals by rest (map names_of lines) (map (λ (p : Put). p.bytes) (tables_from inputs shown t lines outputs))
 texts-from inputs book shown by t [] [] [] same many each within at = tt
 texts-from inputs book shown by t [] [] (output ∷ outputs) same many each within at = absurd (omega (arith, each))
 texts-from inputs book shown by t [] (line ∷ lines) outputs same many each within at = absurd (omega (arith, many))
@@ -214,7 +212,7 @@ PassesWith (Some extra) released =
 abbrev HasNoFault : ReleasedFiles → Type 0
 HasNoFault released = PassesWith released.extra released
 
-hidden-passes : WrittenIsAccepted → (settled : SettledInputs) (release : Release) (is : IsSuppressedRelease settled release) → IsSoundJob settled.inputs.described
+hidden-passes : WrittenIsAccepted → (settled : SettledInputs) (release : PutRelease) (is : IsSuppressedRelease settled release) → IsSoundJob settled.inputs.described
     → HasNoFault (released_with settled is.certificate None (table_bytes settled.inputs (shown_in settled.inputs is.hidden_set.hidden.flags)))
 hidden-passes written settled release is sound = λ case is_case fit.
     let inputs : Inputs = settled.inputs in
@@ -224,7 +222,7 @@ hidden-passes written settled release is sound = λ case is_case fit.
     (subst (λ (m : Method). rounds_cells m ≡ false) (case-method settled case is_case) (hides-so inputs.described.job.method inputs.described.bound.decimals is.protects.hides))
     (case-texts settled case (shown_in inputs flags) (open_truth case.book.now.marks flags) sound is_case (λ t header within. hidden-shown inputs case.book.now flags t header book within))
 
-guarded-passes : GuardingIsAccepted → (settled : SettledInputs) (release : Release) (is : IsGuardedRelease settled release) → IsSoundJob settled.inputs.described
+guarded-passes : GuardingIsAccepted → (settled : SettledInputs) (release : PutRelease) (is : IsGuardedRelease settled release) → IsSoundJob settled.inputs.described
     → HasNoFault (released_with settled is.certificate (Some is.guarded.extra) (table_bytes settled.inputs (shown_in settled.inputs is.guarded.hidden.flags)))
 guarded-passes guarded settled release is sound = λ case soles is_case fit are.
     let inputs : Inputs = settled.inputs in
@@ -249,7 +247,7 @@ guarded-passes guarded settled release is sound = λ case soles is_case fit are.
     is_case fit (subst (λ (m : Method). rounds_cells m ≡ false) (case-method settled case is_case) (hides-so inputs.described.job.method inputs.described.bound.decimals protects.hides)) are
     (subst (λ (set : List Bool). AreTexts case.book.now case.decimals (open_truth case.book.now.marks set) case.book.now.tables case.names.now (table_bytes inputs (shown_in inputs flags))) larger texts)
 
-rounding-passes : WrittenRoundingIsAccepted → (settled : SettledInputs) (base : ℤ) (release : Release) (is : IsReleaseOfRounding settled base release) → job_base settled.inputs.described ≡ Some base → IsSoundJob settled.inputs.described
+rounding-passes : WrittenRoundingIsAccepted → (settled : SettledInputs) (base : ℤ) (release : PutRelease) (is : IsReleaseOfRounding settled base release) → job_base settled.inputs.described ≡ Some base → IsSoundJob settled.inputs.described
     → HasNoFault (released_with settled (rounded_certificate settled.inputs) None (table_bytes settled.inputs (value_in settled.inputs is.values)))
 rounding-passes written settled base release is rounds sound = λ case is_case fit.
     let inputs : Inputs = settled.inputs in
@@ -278,14 +276,14 @@ record StandsBeside (files out : Files) (name : List ℕ) (settled : SettledInpu
   puts : AllByRecursion (λ (put : List ℕ). files put ≡ out put) (names_put settled.inputs.described.job)
   short : AllByRecursion (λ (put : List ℕ). IsShort (out put)) (names_put settled.inputs.described.job)
 
-stands : (files out before : Files) (name : List ℕ) (settled : SettledInputs) (puts : List FilePut) → names_put settled.inputs.described.job ≡ names puts → StandsBeside files out name settled → out ≡ put_all before puts → AreHeld files puts × AreShort puts
+stands : (files out before : Files) (name : List ℕ) (settled : SettledInputs) (puts : List Put) → names_put settled.inputs.described.job ≡ names puts → StandsBeside files out name settled → out ≡ put_all before puts → AreHeld files puts × AreShort puts
 stands files out before name settled puts called s made =
     let whole : AreHeld out puts = subst (λ (o : Files). AreHeld o puts) (sym made) (all-held puts before (subst (λ (all : List (List ℕ)). IsDistinct bytes_eq all) called s.differ)) in (
       held-too puts out files (subst (λ (all : List (List ℕ)). AllByRecursion (λ (put : List ℕ). files put ≡ out put) all) called s.puts) whole,
       are-short puts out (subst (λ (all : List (List ℕ)). AllByRecursion (λ (put : List ℕ). IsShort (out put)) all) called s.short) whole,
     )
 
-hidden-so : WrittenIsAccepted → GuardingIsAccepted → (files out before : Files) (name : List ℕ) (settled : SettledInputs) (release : Release) (line : Option OutputLine) → settled.inputs.described.job.contributors ≡ line → IsHidingRelease line settled release
+hidden-so : WrittenIsAccepted → GuardingIsAccepted → (files out before : Files) (name : List ℕ) (settled : SettledInputs) (release : PutRelease) (line : Option OutputLine) → settled.inputs.described.job.contributors ≡ line → IsHidingRelease line settled release
     → StandsBeside files out name settled → out ≡ put_all before release.puts → IsReadSo files name
 hidden-so written guarded files out before name settled release None named is s made =
     let shown : Name → Option ℤ = shown_in settled.inputs is.hidden_set.hidden.flags in
@@ -305,7 +303,7 @@ hidden-so written guarded files out before name settled release (Some line) name
       passes = guarded-passes guarded settled release is s.sound;
     }
 
-read-so : WrittenIsAccepted → GuardingIsAccepted → WrittenRoundingIsAccepted → (files out before : Files) (name : List ℕ) (settled : SettledInputs) (release : Release) (base : Option ℤ) → job_base settled.inputs.described ≡ base → IsReleaseBy base settled release
+read-so : WrittenIsAccepted → GuardingIsAccepted → WrittenRoundingIsAccepted → (files out before : Files) (name : List ℕ) (settled : SettledInputs) (release : PutRelease) (base : Option ℤ) → job_base settled.inputs.described ≡ base → IsReleaseBy base settled release
     → StandsBeside files out name settled → out ≡ put_all before release.puts → IsReadSo files name
 read-so written guarded rounded files out before name settled release None rounds is s made = hidden-so written guarded files out before name settled release settled.inputs.described.job.contributors refl is s made
 read-so written guarded rounded files out before name settled release (Some base) rounds is s made =
