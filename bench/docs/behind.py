@@ -132,11 +132,11 @@ def named_in(text: str, module: Module, known: Dict[pathlib.Path, Module]) -> Li
 
 def behind(text: str, module: Module, known: Dict[pathlib.Path, Module]) -> Set[Definition]:
     """All definitions behind a text: those that it names, and those that these name."""
-    return with_theirs(named_in(text, module, known), known)
+    return reached_from(named_in(text, module, known), known)
 
 
-def with_theirs(first: List[Definition], known: Dict[pathlib.Path, Module]) -> Set[Definition]:
-    """Some definitions, and all those that these name."""
+def reached_from(first: List[Definition], known: Dict[pathlib.Path, Module]) -> Set[Definition]:
+    """Some definitions, and all those that they name, or that are named by one that they come to."""
     seen: Set[Definition] = set()
     open_ = list(first)
     while open_:

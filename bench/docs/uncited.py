@@ -30,7 +30,7 @@ def cited(known: Dict[pathlib.Path, behind.Module]) -> Set[behind.Definition]:
         names, modules = behind.imports_of(text)
         used = re.sub(r"^ghost use .*", "", text, flags=re.M)
         first += behind.named_in(used, behind.Module({}, names, modules), known)
-    return behind.with_theirs(first, known)
+    return behind.reached_from(first, known)
 
 
 def uncited() -> List[str]:
