@@ -16,7 +16,7 @@ use crate::prior::Status;
 use crate::statement::{Claim, Form, Statement};
 use arrayvec::ArrayVec;
 use linked_tables::Book;
-use sdc_base::{CellFacts, Place};
+use sdc_base::{CellFacts, Dimensions};
 
 /// What a line of this number states.
 #[tactic(auto, unfolding(crate::specs::Statements::statement_of))]
@@ -75,7 +75,7 @@ fn keyword_at(fields: &mut Fields) -> Result<Keyword, PriorWhy>
     Ok(keyword)
 }
 
-// The cell that the codes in front name, in the table's order.
+// The cell that the codes in front name, in the table's order; none where one of them is deeper than the table goes.
 fn cell_of(book: &Book, table: u32, fields: &mut Fields) -> Option<u32>
     ensures cell { result ≡ known_cells.cell_of (basis_of book.now) table fields.old }
     ensures within { IfSome result (λ cell. cell < length book.now.marks) }
@@ -86,7 +86,7 @@ fn cell_of(book: &Book, table: u32, fields: &mut Fields) -> Option<u32>
 }
 
 // The place that the codes in front write, one for each variable.
-fn place_in(book: &Book, spanned: &Place, fields: &mut Fields) -> Option<ArrayVec<u32, 8>>
+fn place_in(book: &Book, spanned: &Dimensions, fields: &mut Fields) -> Option<ArrayVec<u32, 8>>
     ensures { option_map (λ place. place.items) result
         ≡ known_cells.place_in (trees_of book.now.trees spanned.now) fields.old }
 {
@@ -94,7 +94,7 @@ fn place_in(book: &Book, spanned: &Place, fields: &mut Fields) -> Option<ArrayVe
     let mut place: ArrayVec<u32, 8> = ArrayVec::new();
     'variables: for at in 0..width {
         let code = fields.next_field()?;
-        let found = found_in(book, spanned.as_slice()[at], code)?;
+        let found = found_in(book, spanned.as_slice()[at].variable, code)?;
         place.push(found);
     }
     Some(place)

@@ -14,7 +14,8 @@ use std::alloc::Global;
 ///
 /// The marks of the book tell how many of these records, fewer than `2^32`, fall in each cell, as tabulating them does.
 /// Its one refusal is want of memory. It takes one look-up for each record and table and for each cell and variable,
-/// and for each cell with one record a walk up the trees from its codes.
+/// for each record and table a walk up the trees to the table's codes, and for each cell with one record one from the
+/// record's codes.
 ///
 /// That a lone contributor knows its cell is the handbook's, that weights don't matter argus's own.
 pub fn soles(alloc: Global, book: &Book, rows: &[Row]) -> Result<Vec<Option<u32>>, Memory>

@@ -1,7 +1,7 @@
 ghost use Rattle.std.specs.Prelude.{◌<◌, ◌^◌, length};
 
 use linked_tables::Book;
-use sdc_base::{Few, Memory, Place, Row};
+use sdc_base::{Dimension, Few, Memory, Place, Row};
 use std::alloc::Global;
 
 /// For each cell the place of a record that falls in it, where one does. Which records they are is chance; where but
@@ -23,12 +23,12 @@ pub(crate) fn candidate_rows(
     Ok(candidates)
 }
 
-// Notes a record at the cell of table t that has its very codes.
+// Notes a record at the cell of table t under whose codes its own stand as deep as the table goes.
 fn note_row(book: &Book, t: u32, place: u32, row: &Row, candidates: &mut [Option<u32>]) {
     let Some(table) = book.spans(t) else {
         return;
     };
-    let Some(at) = codes_at(table.as_slice(), row.codes.as_slice()) else {
+    let Some(at) = codes_at(book, table.as_slice(), row.codes.as_slice()) else {
         return;
     };
     if let Some(cell) = book.id(t, at.as_slice()) {
@@ -36,13 +36,13 @@ fn note_row(book: &Book, t: u32, place: u32, row: &Row, candidates: &mut [Option
     }
 }
 
-// The codes for these variables, where there is one for each.
-fn codes_at(table: &[u32], codes: &[u32]) -> Option<Place> {
+// The codes of a table under which these codes stand, where there is one for each of its variables.
+fn codes_at(book: &Book, table: &[Dimension], codes: &[u32]) -> Option<Place> {
     let mut place: Place = Few::empty();
-    for variable in table {
-        let next = codes.get(*variable as usize)?;
+    for dimension in table {
+        let code = codes.get(dimension.variable as usize)?;
         if place.len() < 8 {
-            place.insert(place.len(), *next);
+            place.insert(place.len(), book.code_within(*dimension, *code));
         }
     }
     Some(place)

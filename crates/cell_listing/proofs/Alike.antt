@@ -4,9 +4,10 @@ use Rattle.std.proofs.lemmas.List.Elements.{All-cons, All-nil}
 use Rattle.std.specs.Prelude.{All}
 use Rattle.sdc_base.specs.Cells.{cells_of}
 use Rattle.sdc_base.specs.Records.{Name}
-use Rattle.sdc_base.specs.TableText.{codes_of_place, line_text}
+use Rattle.sdc_base.specs.TableText.{line_text}
 use Rattle.sdc_base.specs.RuleLevels.{Figures, is_sensitive_by, keep_of, looks_at, figures_of_facts, figures_in}
 use Rattle.sdc_base.specs.Trees.{Tree}
+use Rattle.sdc_base.specs.declared.dimension.Dimension.{Dimension}
 use Rattle.sdc_base.specs.declared.rows.Row.{Row}
 use Rattle.sdc_base.specs.declared.rule.Rule.{Rule}
 use Rattle.sdc_base.specs.declared.rule.Rule.TheVariants as rule
@@ -23,7 +24,7 @@ use Rattle.job_inputs.specs.declared.described.DescribedJob.{DescribedJob}
 use Rattle.job_inputs.specs.declared.settled.ClassifiedJob.{ClassifiedJob}
 use Rattle.cell_listing.specs.ListedCells.{ListedCell, listed_cells, numbered_from, told_cells}
 use Rattle.cell_listing.specs.Reasons.{kind_word, naming_words, rule_word, with_stated}
-use Rattle.cell_listing.specs.Columns.{amount_text, bound_text, cell_fields, column_names, figure_fields, having_from, price_by, spaced}
+use Rattle.cell_listing.specs.Columns.{amount_text, bound_text, cell_fields, codes_of_name, column_names, figure_fields, having_from, price_by, spaced}
 use Rattle.cell_listing.specs.Listings.{cell_line, listing_text, listing_of}
 use Rattle.cell_listing.specs.Outcomes.{outcome_of}
 use Rattle.cell_listing.specs.ReleasedListings.{outcome_at, outcome_fields, outcome_names, released_line, released_text}
@@ -81,7 +82,7 @@ same_figures decimals cell other same =
 
 fields_with : DescribedJob → List Tree → ℕ → Name → SettledCell → List (List ℕ) → List (List ℕ) → ℕ → List (List ℕ)
 fields_with described trees number name settled figures words price =
-    (decimal number ∷ spaced (having_from 1 described.bound.tables name) ∷ []) ++ codes_of_place trees name ++ figures
+    (decimal number ∷ spaced (having_from trees 1 described.bound.tables name) ∷ []) ++ codes_of_name trees name ++ figures
     ++ (kind_word settled.kind ∷ spaced (with_stated settled.kind words) ∷ amount_text described.bound.decimals settled.up ∷ amount_text described.bound.decimals settled.down ∷ decimal price
     ∷ amount_text described.bound.decimals settled.low ∷ bound_text described.bound.decimals settled.high ∷ [])
 
@@ -133,12 +134,12 @@ lines_alike names line says job settled ready is =
     subst (λ (s : ℕ). AgreeUpTo (keep_of settled.inputs.described.job.rules.list) (figures_of_facts mark.facts) (figures_in job.book.trees name rows s)) tells.scaled
     (subst (λ (k : ℕ). AgreeUpTo k (figures_of_facts mark.facts) (figures_in job.book.trees name rows mark.facts.tops.scale)) tells.keeps (facts_agree mark.facts job.book.trees name rows facts)) in
     let described : DescribedJob = settled.inputs.described in
-    let text : DescribedJob → List Tree → List (List ℕ) → List SettledCell → List ℕ =
+    let text : DescribedJob → List Tree → List (List Dimension) → List SettledCell → List ℕ =
     λ one trees tables cells. names one ++ flat_map (line one trees) (numbered_from 0 (cells_of trees tables) (told_of job.book.marks) cells) in
     ap (λ (one : DescribedJob). text one job.book.trees job.book.tables (map view_of_cell job.cells)) is.described
     ∙ ap (λ (cells : List SettledCell). text described job.book.trees job.book.tables cells) is.cells
     ∙ ap (λ (lines : List ℕ). names described ++ lines) (same_lines (line described job.book.trees) (keep_of described.job.rules.list) (says described job.book.trees) job.book.trees rows scale 0 (cells_in job.book) job.book.marks settled.cells ready.one_each agree)
-    ∙ ap₂ (λ (trees : List Tree) (tables : List (List ℕ)). names described ++ flat_map (line described trees) (numbered_from 0 (cells_of trees tables) (figures_of trees (cells_of trees tables) rows scale) settled.cells)) is.book.trees is.book.tables
+    ∙ ap₂ (λ (trees : List Tree) (tables : List (List Dimension)). names described ++ flat_map (line described trees) (numbered_from 0 (cells_of trees tables) (figures_of trees (cells_of trees tables) rows scale) settled.cells)) is.book.trees is.book.tables
 
 -- the listing of a job is that of its settled inputs
 pub listed_alike : (job : ClassifiedJob) (settled : SettledInputs) → IsReadyJob job → IsSettledOf settled job → listing_text job.described job.book.trees (told_cells job) ≡ listing_of settled

@@ -5,6 +5,7 @@ use Rattle.sdc_base.proofs.GrowingLists.{filter-front, range-next}
 use Rattle.sdc_base.specs.HiddenSets.{is_hidden}
 use Rattle.sdc_base.specs.Trees.{Tree}
 use Rattle.sdc_base.specs.Cells.{cells_of}
+use Rattle.sdc_base.specs.declared.dimension.Dimension.{Dimension}
 use Rattle.certificate.specs.declared.certificate.Certificate.{Certificate}
 use Rattle.certificate.specs.declared.extra.Extra.{Extra}
 use Rattle.linked_tables.specs.BookCells.{cells as cells_in}
@@ -48,7 +49,7 @@ numbers_are c extra count flags are = same_numbers (is_flagged flags) (is_listed
 -- the hidden cells of a release that was read are those of the release
 pub hidden_of_read : (released : ReleasedFiles) (read : ReadRelease) → IsReadyRelease read → IsReleasedOf released read → hidden_numbers read.certificate read.extra (length (cells_in read.job.book)) ≡ hidden_in released
 hidden_of_read released read ready is =
-    let same : cells_in read.job.book ≡ cells released.settled.inputs = ap₂ (λ (trees : List Tree) (tables : List (List ℕ)). cells_of trees tables) is.settled.book.trees is.settled.book.tables in
+    let same : cells_in read.job.book ≡ cells released.settled.inputs = ap₂ (λ (trees : List Tree) (tables : List (List Dimension)). cells_of trees tables) is.settled.book.trees is.settled.book.tables in
     let counts = listings_count_as_reports released.settled read.job ready.job is.settled in
     let size : length (cells_in read.job.book) ≡ length (listed_cells released.settled) = ap length same ∙ sym counts.one_line_each in
     ap₂ (λ (c : Certificate) (extra : Option Extra). hidden_numbers c extra (length (cells_in read.job.book))) is.certificate is.extra

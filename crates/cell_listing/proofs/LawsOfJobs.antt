@@ -8,6 +8,7 @@ use Rattle.sdc_base.specs.RuleLevels.{Figures, figures_in}
 use Rattle.sdc_base.specs.Sums.{truth}
 use Rattle.sdc_base.specs.TableText.{shown_text}
 use Rattle.sdc_base.specs.Trees.{Tree}
+use Rattle.sdc_base.specs.declared.dimension.Dimension.{Dimension}
 use Rattle.apriori.specs.Settling.{SettledCell, view_of_cell}
 use Rattle.linked_tables.specs.BookViews.{BookView}
 use Rattle.linked_tables.specs.BookCells.{cells as cells_in}
@@ -24,7 +25,7 @@ use Rattle.cell_listing.proofs.Numbered.{as_many, was_number}
 
 -- the cells of a job's book are those of its inputs
 same-cells : (job : ClassifiedJob) (settled : SettledInputs) → IsSettledOf settled job → cells_in job.book ≡ cells settled.inputs
-same-cells job settled is = ap₂ (λ (trees : List Tree) (tables : List (List ℕ)). cells_of trees tables) is.book.trees is.book.tables
+same-cells job settled is = ap₂ (λ (trees : List Tree) (tables : List (List Dimension)). cells_of trees tables) is.book.trees is.book.tables
 
 -- there is a settled cell for each
 all-settled : (job : ClassifiedJob) (settled : SettledInputs) → IsReadyJob job → IsSettledOf settled job → length settled.cells ≡ length (cells settled.inputs)
@@ -64,7 +65,7 @@ marked settled book is number cell here =
     let scale : ℕ = settled.inputs.described.bound.scale in
     let f : Name → Figures = λ name. figures_in trees name rows scale in
     let was = was_number 0 (cells settled.inputs) (figures settled.inputs) settled.cells number cell here in
-    let same : cells_in book ≡ cells settled.inputs = ap₂ (λ (trees : List Tree) (tables : List (List ℕ)). cells_of trees tables) is.trees is.tables in
+    let same : cells_in book ≡ cells settled.inputs = ap₂ (λ (trees : List Tree) (tables : List (List Dimension)). cells_of trees tables) is.trees is.tables in
     let named : slice_get (cells_in book) number ≡ Some cell.name = subst (λ (all : List Name). slice_get all number ≡ Some cell.name) (sym same) was.name in
     let within : number < length book.marks = omega (arith, slice_get_within (cells_in book) number cell.name named, is.one_each) in
     let mark = there-is book.marks number within in

@@ -1,6 +1,7 @@
 -- What the reading of a listing comes to.
 use Rattle.std.proofs.Common.{ℕ, List, Result, Ok, Err, IsOkAnd, subst}
 use Rattle.sdc_base.specs.Trees.{Tree}
+use Rattle.sdc_base.specs.declared.dimension.Dimension.{Dimension}
 use Rattle.job_inputs.specs.ClassifiedJobs.{SettledInputs, IsSettledOf}
 use Rattle.job_inputs.specs.declared.described.DescribedJob.{DescribedJob}
 use Rattle.job_inputs.specs.declared.faults.Fault.{Fault}
@@ -24,4 +25,4 @@ relations_alike job settled text is lists =
     let inputs = settled.inputs in
     subst (λ (described : DescribedJob). IsRelationText described inputs.records.trees inputs.described.bound.tables text) is.described
     (subst (λ (trees : List Tree). IsRelationText job.described trees inputs.described.bound.tables text) is.book.trees
-    (subst (λ (tables : List (List ℕ)). IsRelationText job.described job.book.trees tables text) is.book.tables lists))
+    (subst (λ (tables : List (List Dimension)). IsRelationText job.described job.book.trees tables text) is.book.tables lists))

@@ -5,16 +5,17 @@ use Rattle.std.proofs.lemmas.List.{length-append, map-append}
 use Rattle.std.proofs.lemmas.List.Elements.{All-append, All-cons, All-nil}
 use Rattle.sdc_base.specs.Relations.{Sum, relations_among}
 use Rattle.sdc_base.specs.Trees.{Tree}
+use Rattle.sdc_base.specs.declared.dimension.Dimension.{Dimension}
 use Rattle.cell_listing.specs.ListedRelations.{AreRelationsOf, IsOneMore, IsSumFor, total_and_parts}
 use Rattle.cell_listing.specs.declared.listed_relations.ListedRelation.{ListedRelation}
 
 -- these relations are listed, numbered from 0, each for its variable
-pub record AreListed (trees : List Tree) (tables : List (List ℕ)) (sums : List Sum) (listed : List ListedRelation) : Type 0 where
+pub record AreListed (trees : List Tree) (tables : List (List Dimension)) (sums : List Sum) (listed : List ListedRelation) : Type 0 where
   pub sums_are : map total_and_parts listed ≡ sums
   pub numbers : map (λ relation. relation.number) listed ≡ range_with_len 0 (length listed)
   pub variables : All (λ relation. IsSumFor trees tables (total_and_parts relation) relation.variable) listed
 
-pub none_listed : (trees : List Tree) (tables : List (List ℕ)) → AreListed trees tables [] []
+pub none_listed : (trees : List Tree) (tables : List (List Dimension)) → AreListed trees tables [] []
 none_listed trees tables = record { sums_are = refl; numbers = refl; variables = All-nil (λ (relation : ListedRelation). IsSumFor trees tables (total_and_parts relation) relation.variable) }
 
 -- numbers from one on, with the next
@@ -25,7 +26,7 @@ range-more start (suc n) =
     let same : (start + 1) + n ≡ start + suc n = omega arith in
     ap (range_with_len start) longer ∙ ap (λ (rest : List ℕ). start ∷ rest) (range-more (start + 1) n ∙ ap (λ (k : ℕ). range_with_len (start + 1) n ++ k ∷ []) same)
 
-pub one_more : (trees : List Tree) (tables : List (List ℕ)) (sums : List Sum) (sum : Sum) (listed new : List ListedRelation) → AreListed trees tables sums listed → IsOneMore trees tables sum listed new → AreListed trees tables (sums ++ sum ∷ []) new
+pub one_more : (trees : List Tree) (tables : List (List Dimension)) (sums : List Sum) (sum : Sum) (listed new : List ListedRelation) → AreListed trees tables sums listed → IsOneMore trees tables sum listed new → AreListed trees tables (sums ++ sum ∷ []) new
 one_more trees tables sums sum listed new are is =
     let last : ListedRelation = record { number = length listed; total = sum.0; variable = is.variable; parts = sum.1 } in
     let number : ListedRelation → ℕ = λ relation. relation.number in
@@ -38,5 +39,5 @@ one_more trees tables sums sum listed new are is =
       variables = subst (All P) (sym is.added) (All-append P listed (last ∷ []) are.variables (All-cons P last [] is.its (All-nil P)));
     }
 
-pub all_listed : (trees : List Tree) (tables : List (List ℕ)) (listed : List ListedRelation) → AreListed trees tables (relations_among trees tables) listed → AreRelationsOf trees tables listed
+pub all_listed : (trees : List Tree) (tables : List (List Dimension)) (listed : List ListedRelation) → AreListed trees tables (relations_among trees tables) listed → AreRelationsOf trees tables listed
 all_listed trees tables listed are = record { sums = are.sums_are; numbers = are.numbers; variables = are.variables }

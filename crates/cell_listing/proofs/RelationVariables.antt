@@ -9,11 +9,12 @@ use Rattle.sdc_base.specs.Cells.{cells_of}
 use Rattle.sdc_base.specs.Records.{Name}
 use Rattle.sdc_base.specs.Relations.{Sum, codes_below, is_spanned, number_among, parts_among, relation_for, relations_for, relations_among}
 use Rattle.sdc_base.specs.Trees.{Tree}
+use Rattle.sdc_base.specs.declared.dimension.Dimension.{Dimension}
 use Rattle.linked_tables.proofs.Finding.{found-name}
 use Rattle.cell_listing.specs.ListedRelations.{IsSumFor}
 
 -- the total of a relation and its parts
-its-sum : (trees : List Tree) (tables : List (List ℕ)) (cell : ℕ) (name : Name) (variable : ℕ) (sum : Sum) → relation_for trees tables cell name variable ≡ Some sum
+its-sum : (trees : List Tree) (tables : List (List Dimension)) (cell : ℕ) (name : Name) (variable : ℕ) (sum : Sum) → relation_for trees tables cell name variable ≡ Some sum
     → sum ≡ (cell, parts_among (cells_of trees tables) name variable (codes_below trees name variable))
 its-sum trees tables cell name variable sum is = by (is_spanned trees tables name variable && not (length (codes_below trees name variable) == 0)) is
   where
@@ -46,7 +47,7 @@ differs-there name variable place code differ = by (place == variable) refl
         absurd (differ (sym (get_or-set_other name variable place code 0 other)))
 
 -- the variable for which the first part has another code than the total is the relation's
-pub own_variable : (trees : List Tree) (tables : List (List ℕ)) (sum : Sum) (own place part : ℕ) (total name : Name) → IsSumFor trees tables sum own → slice_get sum.1 0 ≡ Some part
+pub own_variable : (trees : List Tree) (tables : List (List Dimension)) (sum : Sum) (own place part : ℕ) (total name : Name) → IsSumFor trees tables sum own → slice_get sum.1 0 ≡ Some part
     → slice_get (cells_of trees tables) sum.0 ≡ Some total → slice_get (cells_of trees tables) part ≡ Some name → slice_index_or total place 0 ≢ slice_index_or name place 0 → IsSumFor trees tables sum place
 own_variable trees tables sum own place part total name is parts at there differ =
     let cells : List Name = cells_of trees tables in
@@ -74,10 +75,10 @@ all-joined P f start zero each = All-nil P
 all-joined P f start (suc n) each = All-append P (f start) (flat_map f (range_with_len (start + 1) n)) (each start) (all-joined P f (start + 1) n each)
 
 -- a relation is for some variable
-abbrev pub IsForSome : List Tree → List (List ℕ) → Sum → Type 0
+abbrev pub IsForSome : List Tree → List (List Dimension) → Sum → Type 0
 IsForSome trees tables sum = (variable : ℕ) × IsSumFor trees tables sum variable
 
-pub all_for_some : (trees : List Tree) (tables : List (List ℕ)) → All (IsForSome trees tables) (relations_among trees tables)
+pub all_for_some : (trees : List Tree) (tables : List (List Dimension)) → All (IsForSome trees tables) (relations_among trees tables)
 all_for_some trees tables =
     let cells : List Name = cells_of trees tables in
     all-joined (IsForSome trees tables) (λ cell. relations_for trees tables cell (slice_index_or cells cell [])) 0 (length cells)

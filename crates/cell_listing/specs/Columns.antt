@@ -1,15 +1,16 @@
 -- The columns of a listing: their names, and what stands in them for a cell (own).
-use Rattle.std.specs.Prelude.{ℕ, ◌+◌, ◌==◌, ◌||◌, ◌&&◌, min, Bool, true, List, [], ◌∷◌, ◌++◌, map, codes, decimal, slice_get, if◌then◌else◌, Option, None, Some, ℤ, ◌+ℤ◌, neg_ℤ, unsigned_abs}
+use Rattle.std.specs.Prelude.{ℕ, ◌+◌, ◌==◌, min, Bool, List, [], ◌∷◌, ◌++◌, map, codes, decimal, slice_get, if◌then◌else◌, Option, None, Some, ℤ, ◌+ℤ◌, neg_ℤ, unsigned_abs}
 use Rattle.std.specs.List.{join_with_byte}
 use Rattle.std.specs.Option.{option_map_or}
-use Rattle.sdc_base.specs.Cells.{spans}
 use Rattle.sdc_base.specs.Records.{Name}
 use Rattle.sdc_base.specs.RuleLevels.{Figures}
-use Rattle.sdc_base.specs.TableText.{codes_of_place, shown_text}
-use Rattle.sdc_base.specs.Trees.{Tree}
+use Rattle.sdc_base.specs.TableText.{shown_text}
+use Rattle.sdc_base.specs.Trees.{Tree, code_in}
+use Rattle.sdc_base.specs.declared.dimension.Dimension.{Dimension}
 use Rattle.cost_rule.specs.Costs.{most_value}
 use Rattle.cost_rule.specs.declared.kind.CostKind.{CostKind}
 use Rattle.cost_rule.specs.declared.kind.CostKind.TheVariants as cost
+use Rattle.relations.specs.Having.{has_codes}
 use Rattle.rda_meta.specs.declared.meta.Variable.{Variable}
 use Rattle.job_inputs.specs.declared.described.DescribedJob.{DescribedJob}
 use Rattle.cell_listing.specs.ListedCells.{ListedCell}
@@ -44,22 +45,17 @@ column_names described = place_names ++ variable_names described ++ figure_names
 
 -- ---- which tables have a cell
 
--- each variable from this one on for which the name has a code below the total is one that the table spans
-abbrev pub has_from : ℕ → List ℕ → Name → Bool
-has_from variable table [] = true
-has_from variable table (code ∷ name) =
-    ((code == 0) || spans table variable) && has_from (variable + 1) table name
-
--- the table has the cell of this name: the name has the total for each variable that the table doesn't span
-abbrev pub has_cell : List ℕ → Name → Bool
-has_cell table name = has_from 0 table name
+-- The table has the cell of this name: for each variable that the table spans the name has a code that is at most as
+-- deep as the table goes, and for each other one the total. Not: for one that the table spans it has any code of the tree.
+abbrev pub has_cell : List Tree → List Dimension → Name → Bool
+has_cell trees table name = has_codes trees table 0 name
 
 -- the numbers of the tables that have the cell, where the first of these has this number
-abbrev pub having_from : ℕ → List (List ℕ) → Name → List (List ℕ)
-having_from number [] name = []
-having_from number (table ∷ tables) name =
-    if has_cell table name then decimal number ∷ having_from (number + 1) tables name
-    else having_from (number + 1) tables name
+abbrev pub having_from : List Tree → ℕ → List (List Dimension) → Name → List (List ℕ)
+having_from trees number [] name = []
+having_from trees number (table ∷ tables) name =
+    if has_cell trees table name then decimal number ∷ having_from trees (number + 1) tables name
+    else having_from trees (number + 1) tables name
 
 -- ---- fields
 
@@ -100,8 +96,14 @@ price_by kind None cell = cost_by kind cell
 price_by kind (Some price) cell = price
 
 -- the number of a cell, and those of the tables that have it
-abbrev pub place_fields : List (List ℕ) → ListedCell → List (List ℕ)
-place_fields tables cell = decimal cell.number ∷ spaced (having_from 1 tables cell.name) ∷ []
+abbrev pub place_fields : List Tree → List (List Dimension) → ListedCell → List (List ℕ)
+place_fields trees tables cell = decimal cell.number ∷ spaced (having_from trees 1 tables cell.name) ∷ []
+
+-- the codes of a cell's name, one for each variable
+abbrev pub codes_of_name : List Tree → Name → List (List ℕ)
+codes_of_name [] name = []
+codes_of_name (tree ∷ trees) [] = []
+codes_of_name (tree ∷ trees) (code ∷ name) = code_in tree code ∷ codes_of_name trees name
 
 -- what the records make of a cell
 abbrev pub figure_fields : ℕ → Figures → List (List ℕ)
@@ -122,5 +124,5 @@ standing_fields described cell =
 -- all that stands in the line of a cell
 abbrev pub cell_fields : DescribedJob → List Tree → ListedCell → List (List ℕ)
 cell_fields described trees cell =
-    place_fields described.bound.tables cell ++ codes_of_place trees cell.name
+    place_fields trees described.bound.tables cell ++ codes_of_name trees cell.name
     ++ figure_fields described.bound.decimals cell.figures ++ standing_fields described cell

@@ -4,6 +4,7 @@ use Rattle.std.specs.declared.alloc.Global.{Global}
 use Rattle.sdc_base.specs.Answers.{Fails}
 use Rattle.sdc_base.specs.TableText.{line_text}
 use Rattle.sdc_base.specs.Trees.{Tree}
+use Rattle.sdc_base.specs.declared.dimension.Dimension.{Dimension}
 use Rattle.office_io.specs.Files.{Files}
 use Rattle.job_inputs.specs.Reading.{stopped_for}
 use Rattle.job_inputs.specs.ClassifiedJobs.{SettledInputs, settled_of}
@@ -35,7 +36,7 @@ abbrev pub relation_text : List (List ℕ) → List ListedRelation → List ℕ
 relation_text names relations = line_text relation_names ++ flat_map (relation_line names) relations
 
 -- the text lists the relations between the cells of a job's tables over these trees
-pub record IsRelationText (described : DescribedJob) (trees : List Tree) (tables : List (List ℕ)) (text : List ℕ)
+pub record IsRelationText (described : DescribedJob) (trees : List Tree) (tables : List (List Dimension)) (text : List ℕ)
     : Type 0 where
   pub relations : List ListedRelation
   pub are : AreRelationsOf trees tables relations

@@ -1,7 +1,6 @@
 ghost use Rattle.std.specs.Prelude.{◌≡◌, ◌≤◌, ◌<◌, ◌∷◌, [], length, IfOk, All, map, slice_index_or, Some, slice_get};
 ghost use Rattle.sdc_base.specs.RuleLevels.{figures_of_facts, keep_of};
 ghost use Rattle.sdc_base.specs.Truths.{IsTruth};
-ghost use Rattle.sdc_base.specs.TableText.{codes_of_place};
 ghost use Rattle.sdc_base.specs.Trees.{code_in};
 ghost use Rattle.apriori.specs.Settling.{view_of_cell};
 ghost use Rattle.job_inputs.specs.SoundJobs.{IsSoundJob};
@@ -15,7 +14,7 @@ use crate::words::{add_all, add_word, add_words};
 use job_inputs::DescribedJob;
 use linked_tables::Book;
 use rda_meta::Variable;
-use sdc_base::{Cell, CellFacts, Items, Memory, Place, Text};
+use sdc_base::{Cell, CellFacts, Dimensions, Items, Memory, Text};
 use std::alloc::Global;
 
 // The columns before the variables.
@@ -87,7 +86,7 @@ pub(crate) fn cell_fields(
         ≡ spec.cell_fields described.now book.now.trees (listed_as given.now)) }
 {
     let decimals = described.bound.decimals;
-    let mut fields = place_fields(alloc, described.bound.tables.as_slice(), given)?;
+    let mut fields = place_fields(alloc, book, described.bound.tables.as_slice(), given)?;
     add_all(&mut fields, code_fields(alloc, book, given.name)?)?;
     add_all(&mut fields, figure_fields(alloc, given.facts, decimals)?)?;
     add_all(&mut fields, standing_fields(alloc, described, given)?)?;
@@ -97,20 +96,21 @@ pub(crate) fn cell_fields(
 // The number of a cell, and those of the tables that have it.
 fn place_fields(
     alloc: Global,
-    tables: &[Place],
+    book: &Book,
+    tables: &[Dimensions],
     given: &ListingColumns<'_>,
 ) -> Result<Items<Text>, Memory>
-    ensures { IfOk result (λ fields. fields ≡ spec.place_fields tables.now (listed_as given.now)) }
+    ensures { IfOk result (λ fields. fields ≡ spec.place_fields book.now.trees tables.now (listed_as given.now)) }
 {
     let mut fields = Items::empty(alloc);
     add_number(alloc, &mut fields, u64::from(given.number))?;
-    add_tables(alloc, &mut fields, tables, given.name)?;
+    add_tables(alloc, &mut fields, book, tables, given.name)?;
     Ok(fields)
 }
 
 // The codes of a cell's name, one for each variable.
 fn code_fields(alloc: Global, book: &Book, name: &[u32]) -> Result<Items<Text>, Memory>
-    ensures { IfOk result (λ fields. fields ≡ codes_of_place book.now.trees name.now) }
+    ensures { IfOk result (λ fields. fields ≡ spec.codes_of_name book.now.trees name.now) }
 {
     let mut fields = Items::empty(alloc);
     'variables: for variable in 0..book.variables() {

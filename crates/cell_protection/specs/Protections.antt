@@ -1,5 +1,6 @@
 -- What becomes of cells that are to be protected (own).
 use Rattle.std.specs.Prelude.{◌≡◌, ◌≤◌, ℕ, Bool, List, length, All}
+use Rattle.sdc_base.specs.declared.dimension.Dimension.{Dimension}
 use Rattle.sdc_base.specs.declared.method.Method.{Method}
 use Rattle.sdc_base.specs.declared.trail.PlanStep.{PlanStep}
 use Rattle.worlds.specs.Protection.{Protection as HiddenSet}
@@ -17,7 +18,7 @@ use Rattle.cell_protection.specs.declared.protection.ProtectionOutcome.{Protecti
 use Rattle.cell_protection.specs.declared.protection.ProtectionOutcome.TheVariants as protection
 
 -- at most eight tables, each of one to eight variables
-pub record AreNarrow (tables : List (List ℕ)) : Type 0 where
+pub record AreNarrow (tables : List (List Dimension)) : Type 0 where
   pub at_most_8_tables : length tables ≤ 8
   pub each : All (λ table. (1 ≤ length table) × (length table ≤ 8)) tables
 

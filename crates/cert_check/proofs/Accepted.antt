@@ -10,6 +10,7 @@ use Rattle.sdc_base.specs.Steps.{◌>>=◌, refuse, map_fault}
 use Rattle.sdc_base.proofs.StepLemmas.{bind_ok}
 use Rattle.sdc_base.proofs.WeakDual.{there}
 use Rattle.sdc_base.specs.declared.cell.Cell.{Cell}
+use Rattle.sdc_base.specs.declared.dimension.Dimension.{Dimension}
 use Rattle.sdc_base.specs.declared.cell.Kind.{Kind}
 use Rattle.sdc_base.specs.declared.cell.Kind.TheVariants.{Primary, Free, Fixed}
 use Rattle.sdc_base.specs.declared.side.Side.{Side}
@@ -273,7 +274,7 @@ texts_same line (x ∷ xs) (y ∷ ys) none =
       | false ↦ λ is bad. absurd cc
     ] refl none
 
-pub tables_good : (book : BookView) (flags : List Bool) (decimals t : ℕ) (tables : List (List ℕ)) (names : List (List (List ℕ))) (files : List (List ℕ)) → length names ≡ length tables → length files ≡ length tables → tables_fault book flags decimals t tables names files ≡ Ok tt → AreTexts book decimals (open_truth book.marks flags) tables names files
+pub tables_good : (book : BookView) (flags : List Bool) (decimals t : ℕ) (tables : List (List Dimension)) (names : List (List (List ℕ))) (files : List (List ℕ)) → length names ≡ length tables → length files ≡ length tables → tables_fault book flags decimals t tables names files ≡ Ok tt → AreTexts book decimals (open_truth book.marks flags) tables names files
 tables_good book flags decimals t [] names files named written ok = tt
 tables_good book flags decimals t (table ∷ tables) [] files named written ok = absurd (omega (arith, named))
 tables_good book flags decimals t (table ∷ tables) (own ∷ names) [] named written ok = absurd (omega (arith, written))

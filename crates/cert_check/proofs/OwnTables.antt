@@ -3,6 +3,7 @@ use Rattle.std.proofs.Common.{◌≡◌, ℕ, ◌+◌, Bool, false, List, [], �
 use Rattle.std.specs.Prelude.{IfOk}
 use Rattle.sdc_base.specs.Answers.{Gives}
 use Rattle.sdc_base.specs.Steps.{◌>>=◌}
+use Rattle.sdc_base.specs.declared.dimension.Dimension.{Dimension}
 use Rattle.worlds.specs.ProtectFaults.{line_number}
 use Rattle.worlds.proofs.WorldLaws.{then_ok, passes_none}
 use Rattle.certificate.specs.declared.certificate.Certificate.{Certificate}
@@ -21,7 +22,7 @@ use Rattle.cert_check.specs.OwnTexts.{hiding_texts, own_set, own_texts, certific
 use Rattle.cert_check.proofs.Written.{text_itself}
 
 -- the texts of a set have no line that differs from them
-pub texts_themselves : (book : BookView) (flags : List Bool) (decimals t : ℕ) (tables : List (List ℕ)) (names : List (List (List ℕ))) → tables_fault book flags decimals t tables names (hiding_texts book flags decimals tables names) ≡ Ok tt
+pub texts_themselves : (book : BookView) (flags : List Bool) (decimals t : ℕ) (tables : List (List Dimension)) (names : List (List (List ℕ))) → tables_fault book flags decimals t tables names (hiding_texts book flags decimals tables names) ≡ Ok tt
 texts_themselves book flags decimals t [] names = refl
 texts_themselves book flags decimals t (table ∷ tables) [] = refl
 texts_themselves book flags decimals t (table ∷ tables) (own ∷ names) =
@@ -30,7 +31,7 @@ texts_themselves book flags decimals t (table ∷ tables) (own ∷ names) =
     (passes_none (λ line. fault.Release t (line_number line)) (differing_line 1 text text) (text_itself 1 text)) (texts_themselves book flags decimals (t + 1) tables names)
 
 -- there is one for each table
-pub as_many_texts : (book : BookView) (flags : List Bool) (decimals : ℕ) (tables : List (List ℕ)) (names : List (List (List ℕ))) → length names ≡ length tables → length (hiding_texts book flags decimals tables names) ≡ length tables
+pub as_many_texts : (book : BookView) (flags : List Bool) (decimals : ℕ) (tables : List (List Dimension)) (names : List (List (List ℕ))) → length names ≡ length tables → length (hiding_texts book flags decimals tables names) ≡ length tables
 as_many_texts book flags decimals [] names many = refl
 as_many_texts book flags decimals (table ∷ tables) [] many = absurd (omega (arith, many))
 as_many_texts book flags decimals (table ∷ tables) (own ∷ names) many = ap suc (as_many_texts book flags decimals tables names (omega (arith, many)))

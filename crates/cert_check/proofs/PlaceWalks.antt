@@ -2,6 +2,7 @@
 use Rattle.std.proofs.Common.{◌≡◌, ℕ, zero, suc, ◌+◌, ◌<◌, ◌≤◌, Bool, true, List, [], ◌∷◌, length, drop, get_or, slice_get, Some, Result, Ok, Err, arith, refl, ap, sym, ◌∙◌, add-one, if◌then◌else◌}
 use Rattle.std.proofs.lemmas.List.{drop_more}
 use Rattle.sdc_base.specs.Steps.{◌>>=◌}
+use Rattle.sdc_base.specs.declared.dimension.Dimension.{Dimension}
 use Rattle.sdc_base.specs.declared.cell.Cell.{Cell}
 use Rattle.sdc_base.specs.declared.side.Side.{Side}
 use Rattle.sdc_base.specs.declared.side.Side.TheVariants.{Above, Below}
@@ -139,13 +140,13 @@ repaired_next flags repairs i repair within is = ap (λ (l : List Refuted). hide
 -- ---- tables
 
 -- the table at a place, and those after it
-pub tables_next : (book : BookView) (flags : List Bool) (decimals : ℕ) (tables : List (List ℕ)) (names : List (List (List ℕ))) (files : List (List ℕ)) (t : ℕ) → t < length tables → t < length names → t < length files
+pub tables_next : (book : BookView) (flags : List Bool) (decimals : ℕ) (tables : List (List Dimension)) (names : List (List (List ℕ))) (files : List (List ℕ)) (t : ℕ) → t < length tables → t < length names → t < length files
     → tables_fault book flags decimals t (drop t tables) (drop t names) (drop t files) ≡ (table_fault book flags decimals t (get_or tables t []) (get_or names t []) (get_or files t []) >>= λ _. tables_fault book flags decimals (t + 1) (drop (t + 1) tables) (drop (t + 1) names) (drop (t + 1) files))
 tables_next book flags decimals tables names files t within named written =
-    ap (λ (l : List (List ℕ)). tables_fault book flags decimals t l (drop t names) (drop t files)) (drop_more tables t [] within)
+    ap (λ (l : List (List Dimension)). tables_fault book flags decimals t l (drop t names) (drop t files)) (drop_more tables t [] within)
     ∙ ap (λ (l : List (List (List ℕ))). tables_fault book flags decimals t (get_or tables t [] ∷ drop (t + 1) tables) l (drop t files)) (drop_more names t [] named)
     ∙ ap (λ (l : List (List ℕ)). tables_fault book flags decimals t (get_or tables t [] ∷ drop (t + 1) tables) (get_or names t [] ∷ drop (t + 1) names) l) (drop_more files t [] written)
 
 -- no table is left
-pub tables_over : (book : BookView) (flags : List Bool) (decimals t : ℕ) (tables : List (List ℕ)) (names : List (List (List ℕ))) (files : List (List ℕ)) → length tables ≤ t → tables_fault book flags decimals t (drop t tables) (drop t names) (drop t files) ≡ Ok tt
-tables_over book flags decimals t tables names files over = ap (λ (l : List (List ℕ)). tables_fault book flags decimals t l (drop t names) (drop t files)) (past tables t over)
+pub tables_over : (book : BookView) (flags : List Bool) (decimals t : ℕ) (tables : List (List Dimension)) (names : List (List (List ℕ))) (files : List (List ℕ)) → length tables ≤ t → tables_fault book flags decimals t (drop t tables) (drop t names) (drop t files) ≡ Ok tt
+tables_over book flags decimals t tables names files over = ap (λ (l : List (List Dimension)). tables_fault book flags decimals t l (drop t names) (drop t files)) (past tables t over)

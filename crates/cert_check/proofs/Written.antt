@@ -12,6 +12,7 @@ use Rattle.sdc_base.specs.HiddenSets.{is_hidden, hide, show}
 use Rattle.sdc_base.specs.Kinds.{is_free}
 use Rattle.sdc_base.specs.Steps.{◌>>=◌, refuse, map_fault}
 use Rattle.sdc_base.specs.declared.cell.Cell.{Cell}
+use Rattle.sdc_base.specs.declared.dimension.Dimension.{Dimension}
 use Rattle.sdc_base.specs.declared.cell.Kind.{Kind}
 use Rattle.sdc_base.specs.declared.cell.Kind.TheVariants.{Primary, Free}
 use Rattle.sdc_base.specs.declared.side.Side.{Side}
@@ -132,7 +133,7 @@ pub text_itself : (line : ℕ) (text : List ℕ) → differing_line line text te
 text_itself line [] = refl
 text_itself line (b ∷ text) = ap (λ t. if t then differing_line (line_after b line) text text else Some line) ((Decides-eqb b b).1 refl) ∙ text_itself (line_after b line) text
 
-pub texts_pass : (book : BookView) (flags : List Bool) (decimals t : ℕ) (tables : List (List ℕ)) (names : List (List (List ℕ))) (files : List (List ℕ)) → AreTexts book decimals (open_truth book.marks flags) tables names files → tables_fault book flags decimals t tables names files ≡ Ok tt
+pub texts_pass : (book : BookView) (flags : List Bool) (decimals t : ℕ) (tables : List (List Dimension)) (names : List (List (List ℕ))) (files : List (List ℕ)) → AreTexts book decimals (open_truth book.marks flags) tables names files → tables_fault book flags decimals t tables names files ≡ Ok tt
 texts_pass book flags decimals t [] names files are = refl
 texts_pass book flags decimals t (table ∷ tables) [] files are = refl
 texts_pass book flags decimals t (table ∷ tables) (own ∷ names) [] are = refl

@@ -2,6 +2,7 @@
 -- another set (own).
 use Rattle.std.specs.Prelude.{ℕ, Bool, List, [], ◌∷◌, Result}
 use Rattle.sdc_base.specs.Steps.{◌>>=◌}
+use Rattle.sdc_base.specs.declared.dimension.Dimension.{Dimension}
 use Rattle.certificate.specs.declared.certificate.Certificate.{Certificate}
 use Rattle.linked_tables.specs.BookViews.{BookView}
 use Rattle.cert_check.specs.declared.case.Case.{Case}
@@ -13,7 +14,7 @@ use Rattle.cert_check.specs.ReleaseLines.{hiding_text, tables_fault}
 use Rattle.cert_check.specs.FirstFault.{shown_fault}
 
 -- the texts of tables, each with its names, in which each cell shows its truth, unless it is hidden
-abbrev pub hiding_texts : BookView → List Bool → ℕ → List (List ℕ) → List (List (List ℕ)) → List (List ℕ)
+abbrev pub hiding_texts : BookView → List Bool → ℕ → List (List Dimension) → List (List (List ℕ)) → List (List ℕ)
 hiding_texts book flags decimals (table ∷ tables) (names ∷ others) =
     hiding_text book flags decimals table names ∷ hiding_texts book flags decimals tables others
 hiding_texts book flags decimals tables names = []

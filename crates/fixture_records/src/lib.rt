@@ -5,6 +5,6 @@ mod lists;
 mod records;
 mod trees;
 
-pub use lists::{place, places, texts};
+pub use lists::{place, places, tables, texts};
 pub use records::{Record, rows, thirteen};
-pub use trees::{pairs, regions, tree, two_codes};
+pub use trees::{pairs, regions, tree, two_by_two, two_codes};

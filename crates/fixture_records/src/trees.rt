@@ -40,3 +40,14 @@ pub fn regions(alloc: Global) -> Result<CodeTree, TreeFault> {
         &Text::from_slice(alloc, b"Total")?,
     )
 }
+
+/// The total, and by their places 1 `1`, 2 `11` and 3 `12` below it, 4 `2`, 5 `21` and 6 `22` below it.
+pub fn two_by_two(alloc: Global) -> Result<CodeTree, TreeFault> {
+    let bytes = b"1\n@11\n@12\n2\n@21\n@22\n".as_slice();
+    from_lead(
+        alloc,
+        bytes,
+        &Text::from_slice(alloc, b"@")?,
+        &Text::from_slice(alloc, b"Total")?,
+    )
+}

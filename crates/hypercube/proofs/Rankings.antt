@@ -10,6 +10,7 @@ use Rattle.sdc_base.specs.Cubes.{choices, cubes_at, edges_at, serve}
 use Rattle.sdc_base.specs.CubeOrder.{comes_before, first_by}
 use Rattle.sdc_base.specs.declared.cube.Edge.{Edge}
 use Rattle.hypercube.specs.declared.ranking.PricedEdge.{PricedEdge}
+use Rattle.sdc_base.specs.declared.dimension.Dimension.{Dimension}
 use Rattle.linked_tables.specs.BookCells.{IsBook}
 use Rattle.hypercube.specs.Branches.{Setting, begin_at, best_beyond, cell_in, codes_at, offers_of}
 use Rattle.hypercube.specs.LeastCubes.{is_marked, price_in}
@@ -216,7 +217,7 @@ are-ranked setting lists all are few begun =
     }
 
 -- and it finds the first of all cubes
-pub search-ranked : (setting : Setting) (trees : List Tree) (name : Name) (table parents : List ℕ) (all : List (List PricedEdge)) → IsBook setting.book → setting.codes ≡ codes_at name table parents
+pub search-ranked : (setting : Setting) (trees : List Tree) (name : Name) (table : List Dimension) (parents : List ℕ) (all : List (List PricedEdge)) → IsBook setting.book → setting.codes ≡ codes_at name table parents
     → AreRankings setting 0 (edges_at trees name table parents) all → best_beyond setting None [] (edge_lists all) ≡ first_by comes_before (offers_of setting (cubes_at trees name table parents))
 search-ranked setting trees name table parents all is_book codes are =
     search-all setting (edge_lists all)

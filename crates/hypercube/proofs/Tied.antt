@@ -1,14 +1,16 @@
 -- Two cubes of a cell in a subtable whose corners have the same numbers have the same corners: a corner's sign follows from its place.
-use Rattle.std.proofs.Common.{◌≡◌, ◌⊎◌, inl, inr, ℕ, ◌<◌, ◌==◌, ◌&&◌, ◌||◌, nat_lt, Bool, true, false, not, cond, if◌then◌else◌, List, [], ◌∷◌, length, map, filter, fold, slice_get, slice_index, slice_index_or, Option, None, Some, option_map, refl, ap, sym, ◌∙◌, arith}
+use Rattle.std.proofs.Common.{◌≡◌, ◌⊎◌, inl, inr, ℕ, ◌<◌, ◌==◌, ◌&&◌, ◌||◌, nat_lt, Bool, true, false, not, cond, if◌then◌else◌, List, [], ◌∷◌, length, map, filter, fold, slice_get, slice_index, Option, None, Some, option_map, refl, ap, sym, ◌∙◌, arith}
 use Rattle.std.specs.List.{AllByRecursion, cons_option, filter_map}
 use Rattle.std.specs.Option.{option_and_then}
 use Rattle.std.proofs.lemmas.Bool.Decides.{Decides-eqb}
 use Rattle.sdc_base.specs.Trees.{Tree}
 use Rattle.sdc_base.specs.Records.{Name}
+use Rattle.sdc_base.specs.Cells.{cut_tree}
 use Rattle.sdc_base.specs.Cubes.{choices, codes_in, corner_at, corner_places, corners_of, cubes_at, edge_to, edges_at, edges_from, edges_to, other_end, own_end, sign_over, with_corner}
 use Rattle.sdc_base.specs.CubeOrder.{comes_before, is_lower, offer_of, price_of_hiding}
 use Rattle.sdc_base.specs.declared.cube.Corner.{Corner}
 use Rattle.sdc_base.specs.declared.cube.Edge.{Edge}
+use Rattle.sdc_base.specs.declared.dimension.Dimension.{Dimension}
 use Rattle.linked_tables.specs.BookViews.{BookView}
 use Rattle.linked_tables.specs.BookCells.{IsBook, IsTable, cell_at, is_in, name_in_table, number_of}
 use Rattle.hypercube.proofs.AllOf.{all-append, all-flat, all-map, all-more}
@@ -18,12 +20,12 @@ use Rattle.hypercube.proofs.WholeCubes.{all-at, not-none, same-cell}
 -- ---- signs by places
 
 -- the sign of a corner at a place: it turns for each variable whose code isn't the cell's, where neither of both is the parent
-abbrev pub sign_at : Name → List ℕ → List ℕ → List ℕ → Bool
+abbrev pub sign_at : Name → List Dimension → List ℕ → List ℕ → Bool
 sign_at name [] parents place = true
-sign_at name (variable ∷ table) [] place = true
-sign_at name (variable ∷ table) (parent ∷ parents) [] = true
-sign_at name (variable ∷ table) (parent ∷ parents) (code ∷ place) =
-    if code == slice_index name variable || (slice_index name variable == parent || code == parent) then sign_at name table parents place else not (sign_at name table parents place)
+sign_at name (dimension ∷ table) [] place = true
+sign_at name (dimension ∷ table) (parent ∷ parents) [] = true
+sign_at name (dimension ∷ table) (parent ∷ parents) (code ∷ place) =
+    if code == slice_index name dimension.variable || (slice_index name dimension.variable == parent || code == parent) then sign_at name table parents place else not (sign_at name table parents place)
 
 -- an edge from a code
 record IsEdge (parent code : ℕ) (edge : Edge) : Type 0 where
@@ -40,24 +42,24 @@ to-are parent code (other ∷ others) =
     ] refl
 
 -- each edge is one from the cell's code
-abbrev AreEdges : Name → List ℕ → List ℕ → List Edge → Type 0
+abbrev AreEdges : Name → List Dimension → List ℕ → List Edge → Type 0
 AreEdges name [] parents [] = Unit {0}
 AreEdges name [] parents (edge ∷ edges) = ⊥
-AreEdges name (variable ∷ table) [] [] = Unit {0}
-AreEdges name (variable ∷ table) [] (edge ∷ edges) = ⊥
-AreEdges name (variable ∷ table) (parent ∷ parents) [] = ⊥
-AreEdges name (variable ∷ table) (parent ∷ parents) (edge ∷ edges) = IsEdge parent (slice_index name variable) edge × AreEdges name table parents edges
+AreEdges name (dimension ∷ table) [] [] = Unit {0}
+AreEdges name (dimension ∷ table) [] (edge ∷ edges) = ⊥
+AreEdges name (dimension ∷ table) (parent ∷ parents) [] = ⊥
+AreEdges name (dimension ∷ table) (parent ∷ parents) (edge ∷ edges) = IsEdge parent (slice_index name dimension.variable) edge × AreEdges name table parents edges
 
-cubes-are : (trees : List Tree) (name : Name) (table parents : List ℕ) → AllByRecursion (AreEdges name table parents) (cubes_at trees name table parents)
+cubes-are : (trees : List Tree) (name : Name) (table : List Dimension) (parents : List ℕ) → AllByRecursion (AreEdges name table parents) (cubes_at trees name table parents)
 cubes-are trees name [] parents = (tt, tt)
-cubes-are trees name (variable ∷ table) [] = (tt, tt)
-cubes-are trees name (variable ∷ table) (parent ∷ parents) =
-    let tree = slice_index_or trees variable [] in
-    let code = slice_index name variable in
+cubes-are trees name (dimension ∷ table) [] = (tt, tt)
+cubes-are trees name (dimension ∷ table) (parent ∷ parents) =
+    let tree = cut_tree trees dimension in
+    let code = slice_index name dimension.variable in
     let rest = choices (edges_at trees name table parents) in
-    all-flat (AreEdges name (variable ∷ table) (parent ∷ parents)) (λ one. map (λ others. one ∷ others) rest) (edges_from tree parent code)
-    (all-more (IsEdge parent code) (λ one. AllByRecursion (AreEdges name (variable ∷ table) (parent ∷ parents)) (map (λ others. one ∷ others) rest)) (edges_from tree parent code)
-    (λ one here. all-map (AreEdges name (variable ∷ table) (parent ∷ parents)) (λ others. one ∷ others) rest (all-more (AreEdges name table parents) (λ others. AreEdges name (variable ∷ table) (parent ∷ parents) (one ∷ others)) rest (λ others later. (here, later)) (cubes-are trees name table parents)))
+    all-flat (AreEdges name (dimension ∷ table) (parent ∷ parents)) (λ one. map (λ others. one ∷ others) rest) (edges_from tree parent code)
+    (all-more (IsEdge parent code) (λ one. AllByRecursion (AreEdges name (dimension ∷ table) (parent ∷ parents)) (map (λ others. one ∷ others) rest)) (edges_from tree parent code)
+    (λ one here. all-map (AreEdges name (dimension ∷ table) (parent ∷ parents)) (λ others. one ∷ others) rest (all-more (AreEdges name table parents) (λ others. AreEdges name (dimension ∷ table) (parent ∷ parents) (one ∷ others)) rest (λ others later. (here, later)) (cubes-are trees name table parents)))
     (to-are parent code (codes_in tree parent)))
 
 own-sign : (parent code : ℕ) (edge : Edge) (sign : Bool) → IsEdge parent code edge → sign ≡ (if edge.code == code || (code == parent || edge.code == parent) then sign else not sign)
@@ -70,24 +72,24 @@ other-sign parent code edge sign is =
     ap (λ b. if b then sign else not sign) is.sign ∙ ap (λ b. if b || (code == parent || edge.other == parent) then sign else not sign) (sym is.away)
 
 -- a corner has the sign of its place
-abbrev HasSign : Name → List ℕ → List ℕ → List ℕ × Bool → Type 0
+abbrev HasSign : Name → List Dimension → List ℕ → List ℕ × Bool → Type 0
 HasSign name table parents corner = corner.1 ≡ sign_at name table parents corner.0
 
-places-signed : (name : Name) (table parents : List ℕ) (cube : List Edge) → AreEdges name table parents cube → AllByRecursion (HasSign name table parents) (corner_places cube)
+places-signed : (name : Name) (table : List Dimension) (parents : List ℕ) (cube : List Edge) → AreEdges name table parents cube → AllByRecursion (HasSign name table parents) (corner_places cube)
 places-signed name [] parents [] are = (refl, tt)
 places-signed name [] parents (edge ∷ edges) are = absurd are
-places-signed name (variable ∷ table) [] [] are = (refl, tt)
-places-signed name (variable ∷ table) [] (edge ∷ edges) are = absurd are
-places-signed name (variable ∷ table) (parent ∷ parents) [] are = absurd are
-places-signed name (variable ∷ table) (parent ∷ parents) (edge ∷ edges) (here, are) =
-    let code = slice_index name variable in
+places-signed name (dimension ∷ table) [] [] are = (refl, tt)
+places-signed name (dimension ∷ table) [] (edge ∷ edges) are = absurd are
+places-signed name (dimension ∷ table) (parent ∷ parents) [] are = absurd are
+places-signed name (dimension ∷ table) (parent ∷ parents) (edge ∷ edges) (here, are) =
+    let code = slice_index name dimension.variable in
     let rest = places-signed name table parents edges are in
-    all-append (HasSign name (variable ∷ table) (parent ∷ parents)) (map (own_end edge) (corner_places edges)) (map (other_end edge) (corner_places edges))
-    (all-map (HasSign name (variable ∷ table) (parent ∷ parents)) (own_end edge) (corner_places edges)
-    (all-more (HasSign name table parents) (λ corner. HasSign name (variable ∷ table) (parent ∷ parents) (own_end edge corner)) (corner_places edges)
+    all-append (HasSign name (dimension ∷ table) (parent ∷ parents)) (map (own_end edge) (corner_places edges)) (map (other_end edge) (corner_places edges))
+    (all-map (HasSign name (dimension ∷ table) (parent ∷ parents)) (own_end edge) (corner_places edges)
+    (all-more (HasSign name table parents) (λ corner. HasSign name (dimension ∷ table) (parent ∷ parents) (own_end edge corner)) (corner_places edges)
     (λ corner is. is ∙ own-sign parent code edge (sign_at name table parents corner.0) here) rest))
-    (all-map (HasSign name (variable ∷ table) (parent ∷ parents)) (other_end edge) (corner_places edges)
-    (all-more (HasSign name table parents) (λ corner. HasSign name (variable ∷ table) (parent ∷ parents) (other_end edge corner)) (corner_places edges)
+    (all-map (HasSign name (dimension ∷ table) (parent ∷ parents)) (other_end edge) (corner_places edges)
+    (all-more (HasSign name table parents) (λ corner. HasSign name (dimension ∷ table) (parent ∷ parents) (other_end edge corner)) (corner_places edges)
     (λ corner is. ap (sign_over edge) is ∙ other-sign parent code edge (sign_at name table parents corner.0) here) rest))
 
 -- ---- corners by their cells
@@ -117,7 +119,7 @@ all-puts : (P : Corner → Type 0) (corners more : List Corner) → AllByRecursi
 all-puts P corners [] all others = all
 all-puts P corners (new ∷ more) all (here, others) = all-puts P (with_corner corners new) more (all-put P corners new all here) others
 
-cube-signed : (number : List ℕ → Option ℕ) (name : Name) (table parents : List ℕ) (cube : List Edge) → AreEdges name table parents cube → AllByRecursion (IsSigned number (sign_at name table parents)) (corners_of number cube)
+cube-signed : (number : List ℕ → Option ℕ) (name : Name) (table : List Dimension) (parents : List ℕ) (cube : List Edge) → AreEdges name table parents cube → AllByRecursion (IsSigned number (sign_at name table parents)) (corners_of number cube)
 cube-signed number name table parents cube are =
     all-puts (IsSigned number (sign_at name table parents)) [] (filter_map (corner_at number) (corner_places cube)) tt
     (found-signed number (sign_at name table parents) (corner_places cube) (places-signed name table parents cube are))
@@ -160,14 +162,14 @@ IsTied number hidden price one other =
     comes_before (offer_of number hidden price one) (offer_of number hidden price other) ≡ false → comes_before (offer_of number hidden price other) (offer_of number hidden price one) ≡ false
     → offer_of number hidden price one ≡ offer_of number hidden price other
 
-same-offer : (number : List ℕ → Option ℕ) (hidden : ℕ → Bool) (price : ℕ → ℕ) (name : Name) (table parents : List ℕ) → HaveOwnCells number → (one other : List Edge) → AreEdges name table parents one → AreEdges name table parents other → IsTied number hidden price one other
+same-offer : (number : List ℕ → Option ℕ) (hidden : ℕ → Bool) (price : ℕ → ℕ) (name : Name) (table : List Dimension) (parents : List ℕ) → HaveOwnCells number → (one other : List Edge) → AreEdges name table parents one → AreEdges name table parents other → IsTied number hidden price one other
 same-offer number hidden price name table parents apart one other are all h k =
     let both = both-same (price_of_hiding hidden price (corners_of number one)) (price_of_hiding hidden price (corners_of number other)) (is_lower (corners_of number one) (corners_of number other)) (is_lower (corners_of number other) (corners_of number one)) h k in
     ap (λ (corners : List Corner). (price_of_hiding hidden price corners, corners))
     (same-corners number (sign_at name table parents) apart (corners_of number one) (corners_of number other) (cube-signed number name table parents one are) (cube-signed number name table parents other all) both.1 both.2)
 
 -- the cubes of a cell
-pub cubes-tied : (number : List ℕ → Option ℕ) (hidden : ℕ → Bool) (price : ℕ → ℕ) (trees : List Tree) (name : Name) (table parents : List ℕ) → HaveOwnCells number
+pub cubes-tied : (number : List ℕ → Option ℕ) (hidden : ℕ → Bool) (price : ℕ → ℕ) (trees : List Tree) (name : Name) (table : List Dimension) (parents : List ℕ) → HaveOwnCells number
     → AllByRecursion (λ one. AllByRecursion (IsTied number hidden price one) (cubes_at trees name table parents)) (cubes_at trees name table parents)
 cubes-tied number hidden price trees name table parents apart =
     let cubes = cubes_at trees name table parents in
@@ -181,16 +183,16 @@ cubes-tied number hidden price trees name table parents apart =
 pub own-cells : (book : BookView) (t : ℕ) → IsBook book → HaveOwnCells (cell_at book t)
 own-cells book t is_book one other cell here there = by (slice_get book.tables t) refl
   where
-    inside : (table place : List ℕ) → slice_get book.tables t ≡ Some table → cell_at book t place ≡ Some cell → is_in book table place ≡ true
+    inside : (table : List Dimension) (place : List ℕ) → slice_get book.tables t ≡ Some table → cell_at book t place ≡ Some cell → is_in book table place ≡ true
     inside table place at is =
         let read : (if is_in book table place then number_of book (name_in_table book table place) else None) ≡ Some cell =
-        sym (ap (λ (found : Option (List ℕ)). option_and_then (λ spanned. if is_in book spanned place then number_of book (name_in_table book spanned place) else None) found) at) ∙ is
+        sym (ap (λ (found : Option (List Dimension)). option_and_then (λ spanned. if is_in book spanned place then number_of book (name_in_table book spanned place) else None) found) at) ∙ is
         in
         elim (is_in book table place) as (λ b. (if b then number_of book (name_in_table book table place) else None) ≡ Some cell → b ≡ true) [
           | true ↦ λ found. refl
           | false ↦ λ found. absurd cc
         ] read
 
-    by : (met : Option (List ℕ)) → slice_get book.tables t ≡ met → one ≡ other
-    by None at = absurd (not-none (sym here ∙ ap (λ (found : Option (List ℕ)). option_and_then (λ spanned. if is_in book spanned one then number_of book (name_in_table book spanned one) else None) found) at))
+    by : (met : Option (List Dimension)) → slice_get book.tables t ≡ met → one ≡ other
+    by None at = absurd (not-none (sym here ∙ ap (λ (found : Option (List Dimension)). option_and_then (λ spanned. if is_in book spanned one then number_of book (name_in_table book spanned one) else None) found) at))
     by (Some table) at = same-cell book t table one other cell (all-at (IsTable (length book.trees)) book.tables t table is_book.tables at) at (inside table one at here) (inside table other at there) here there

@@ -8,6 +8,7 @@ use Rattle.sdc_base.specs.CubeOrder.{Offer, better, comes_before, offers}
 use Rattle.sdc_base.specs.declared.cell.Cell.{Cell}
 use Rattle.sdc_base.specs.declared.cube.Corner.{Corner}
 use Rattle.sdc_base.specs.declared.cube.Edge.{Edge}
+use Rattle.sdc_base.specs.declared.dimension.Dimension.{Dimension}
 use Rattle.sdc_base.specs.declared.facts.Levels.{Levels}
 use Rattle.cost_rule.specs.Costs.{AreCosted}
 use Rattle.cost_rule.specs.declared.kind.CostKind.{CostKind}
@@ -54,10 +55,11 @@ sign_beyond edges = fold (λ plus edge. sign_over edge plus) true edges
 -- ---- the search
 
 -- the codes of a name, variable by variable of a table with these parents
-abbrev pub codes_at : Name → List ℕ → List ℕ → List ℕ
+abbrev pub codes_at : Name → List Dimension → List ℕ → List ℕ
 codes_at name [] parents = []
-codes_at name (variable ∷ table) [] = []
-codes_at name (variable ∷ table) (parent ∷ parents) = slice_index name variable ∷ codes_at name table parents
+codes_at name (dimension ∷ table) [] = []
+codes_at name (dimension ∷ table) (parent ∷ parents) =
+    slice_index name dimension.variable ∷ codes_at name table parents
 
 -- each of these lists has edges from its code alone
 abbrev pub begin_at : List ℕ → List (List Edge) → Bool

@@ -1,10 +1,11 @@
-ghost use Rattle.std.specs.Prelude.{◌≡◌, ◌<◌, ◌≤◌, ◌++◌, ◌∷◌, ◌==◌, [], not, if◌then◌else◌, length, drop, slice_index, slice_index_or, IfOk, OnOk};
+ghost use Rattle.std.specs.Prelude.{◌≡◌, ◌<◌, ◌≤◌, ◌++◌, ◌∷◌, ◌==◌, [], not, if◌then◌else◌, length, drop, slice_index, IfOk, OnOk};
+ghost use Rattle.sdc_base.specs.Cells.{cut_tree};
 ghost use Rattle.sdc_base.specs.Cubes as spec;
 ghost use Rattle.hypercube.specs.Branches as branches;
 
 use arrayvec::ArrayVec;
 use linked_tables::Book;
-use sdc_base::{Edge, Few, Items, Memory, Place};
+use sdc_base::{Dimension, Dimensions, Edge, Few, Items, Memory, Place};
 use std::alloc::Global;
 
 /// The edges from the codes of a name, variable by variable of a table with these parents.
@@ -12,7 +13,7 @@ pub(crate) fn edges_at(
     alloc: Global,
     book: &Book,
     name: &Place,
-    table: &Place,
+    table: &Dimensions,
     parents: &Place,
 ) -> Result<Vec<Items<Edge>>, Memory>
     ensures edges { IfOk result (λ lists. lists.items ≡ spec.edges_at book.now.trees name.now table.now parents.now) }
@@ -25,13 +26,13 @@ pub(crate) fn edges_at(
         if k >= above.len() {
             return Ok(lists);
         }
-        let variable = table.as_slice()[k];
+        let dimension = table.as_slice()[k];
         let edges = edges_from(
             alloc,
             book,
-            variable,
+            dimension,
             above[k],
-            code_at(name.as_slice(), variable),
+            code_at(name.as_slice(), dimension.variable),
         )?;
         lists.push(edges)?;
     }
@@ -39,7 +40,7 @@ pub(crate) fn edges_at(
 }
 
 /// The codes of a name, variable by variable of a table with these parents.
-pub(crate) fn codes_at(name: &Place, table: &Place, parents: &Place) -> Place
+pub(crate) fn codes_at(name: &Place, table: &Dimensions, parents: &Place) -> Place
     ensures { result ≡ branches.codes_at name.now table.now parents.now }
 {
     let mut codes: ArrayVec<u32, 8> = ArrayVec::new();
@@ -49,8 +50,8 @@ pub(crate) fn codes_at(name: &Place, table: &Place, parents: &Place) -> Place
         if k >= above.len() {
             return Few::new(codes);
         }
-        let variable = table.as_slice()[k];
-        let code = code_at(name.as_slice(), variable);
+        let dimension = table.as_slice()[k];
+        let code = code_at(name.as_slice(), dimension.variable);
         codes.push(code);
     }
     Few::new(codes)
@@ -63,22 +64,22 @@ pub(crate) fn codes_behind(codes: &[u32], k: usize) -> &[u32]
     &codes[k.min(codes.len())..]
 }
 
-// The edges from a code of a variable, in a subtable with this parent.
+// The edges from a code of a variable, in a subtable with this parent of a table that spans it so.
 fn edges_from(
     alloc: Global,
     book: &Book,
-    variable: u32,
+    dimension: Dimension,
     parent: u32,
     code: u32,
 ) -> Result<Items<Edge>, Memory>
-    ensures { IfOk result (λ edges. edges ≡ spec.edges_from (slice_index_or book.now.trees variable []) parent code) }
+    ensures { IfOk result (λ edges. edges ≡ spec.edges_from (cut_tree book.now.trees dimension) parent code) }
 {
     let mut edges = Vec::new(alloc);
     add_edge(parent, code, parent, &mut edges)?;
-    let mut met = book.first_child(variable, parent);
+    let mut met = book.first_child_within(dimension, parent);
     'children: while let Some(child) = met {
         add_edge(parent, code, child, &mut edges)?;
-        met = book.next_sibling(variable, child);
+        met = book.next_sibling(dimension.variable, child);
     }
     Ok(Items::new(edges))
 }

@@ -16,7 +16,7 @@ use crate::serving::{bears_at, serve};
 use arrayvec::ArrayVec;
 use cost_rule::{CostRule, TellsCosts};
 use linked_tables::Book;
-use sdc_base::{Cell, Corner, Cube, Edge, Few, Items, Levels, Memory, Place, Subtable};
+use sdc_base::{Cell, Corner, Cube, Dimensions, Edge, Few, Items, Levels, Memory, Place, Subtable};
 use std::alloc::Global;
 use std::marker::Model;
 
@@ -95,8 +95,8 @@ fn name_of(book: &Book, cell: u32) -> Place
     }
 }
 
-// The variables that a table spans; none where there is no such table.
-fn table_of(book: &Book, t: u32) -> Place
+// The variables that a table spans, with their depths; none where there is no such table.
+fn table_of(book: &Book, t: u32) -> Dimensions
     ensures { result ≡ slice_index_or book.now.tables t [] }
 {
     match book.spans(t) {

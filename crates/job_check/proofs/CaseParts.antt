@@ -4,6 +4,7 @@ use Rattle.std.specs.Prelude.{slice_index_or}
 use Rattle.std.proofs.lemmas.List.{length-append}
 use Rattle.std.proofs.lemmas.Option.{slice_get_within}
 use Rattle.sdc_base.specs.declared.cell.Cell.{Cell}
+use Rattle.sdc_base.specs.declared.dimension.Dimension.{Dimension}
 use Rattle.sdc_base.specs.declared.facts.CellFacts.{CellFacts}
 use Rattle.sdc_base.specs.declared.system.System.{System}
 use Rattle.cert_check.specs.Cases.{IsCase}
@@ -48,7 +49,7 @@ are-cells cells other corners same all = λ k d within.
 
 -- ---- names
 
-each-named : (tables : List (List ℕ)) (lines : List TableLine) (t : ℕ) → map (λ (places : List ℕ). length places) tables ≡ map (λ (line : TableLine). length line.variables) lines → t < length tables
+each-named : (tables : List (List Dimension)) (lines : List TableLine) (t : ℕ) → map (λ (dimensions : List Dimension). length dimensions) tables ≡ map (λ (line : TableLine). length line.variables) lines → t < length tables
     → length (slice_index_or (map names_of lines) t []) ≡ length (slice_index_or tables t []) + 1
 each-named [] lines t same within = absurd (omega (arith, within))
 each-named (table ∷ tables) [] t same within = absurd cc
@@ -56,7 +57,7 @@ each-named (table ∷ tables) (line ∷ lines) zero same within =
     let heads : length table ≡ length line.variables = cc in
     length-append line.variables (line.response ∷ []) ∙ ap (λ (n : ℕ). n + 1) (sym heads)
 each-named (table ∷ tables) (line ∷ lines) (suc t) same within =
-    let tails : map (λ (places : List ℕ). length places) tables ≡ map (λ (line : TableLine). length line.variables) lines = cc in
+    let tails : map (λ (dimensions : List Dimension). length dimensions) tables ≡ map (λ (line : TableLine). length line.variables) lines = cc in
     each-named tables lines t tails (omega (arith, within))
 
 pub length-map : {X Y : Type 0} (f : X → Y) (xs : List X) → length (map f xs) ≡ length xs
@@ -64,8 +65,8 @@ length-map f [] = refl
 length-map f (x ∷ xs) = ap suc (length-map f xs)
 
 -- there are as many tables as lines
-as-many : (tables : List (List ℕ)) (lines : List TableLine) → map (λ (places : List ℕ). length places) tables ≡ map (λ (line : TableLine). length line.variables) lines → length tables ≡ length lines
-as-many tables lines same = sym (length-map (λ (places : List ℕ). length places) tables) ∙ ap length same ∙ length-map (λ (line : TableLine). length line.variables) lines
+as-many : (tables : List (List Dimension)) (lines : List TableLine) → map (λ (dimensions : List Dimension). length dimensions) tables ≡ map (λ (line : TableLine). length line.variables) lines → length tables ≡ length lines
+as-many tables lines same = sym (length-map (λ (dimensions : List Dimension). length dimensions) tables) ∙ ap length same ∙ length-map (λ (line : TableLine). length line.variables) lines
 
 -- the tables of a job's book are those of its lines
 tables-are : (job : ClassifiedJob) (book : BookView) → IsReadyJob job → IsSameButHidden job.book book → book.tables ≡ job.described.bound.tables
@@ -73,10 +74,10 @@ tables-are job book ready hidden = hidden.tables ∙ ready.book.tables
 
 pub have-names : (job : ClassifiedJob) (book : BookView) (names : List (List (List ℕ))) → IsReadyJob job → IsSameButHidden job.book book → names ≡ map names_of job.described.job.tables → HaveNames names book.tables
 have-names job book names ready hidden are =
-    let tables : List (List ℕ) = job.described.bound.tables in
+    let tables : List (List Dimension) = job.described.bound.tables in
     let lines : List TableLine = job.described.job.tables in
     let same = ready.sound.bound.tables in
-    subst (λ (all : List (List ℕ)). HaveNames names all) (sym (tables-are job book ready hidden)) (record {
+    subst (λ (all : List (List Dimension)). HaveNames names all) (sym (tables-are job book ready hidden)) (record {
       lists = ap length are ∙ length-map names_of lines ∙ sym (as-many tables lines same);
       each = λ t within. ap (λ (all : List (List (List ℕ))). length (slice_index_or all t [])) are ∙ each-named tables lines t same within;
     })

@@ -2,7 +2,8 @@
 use Rattle.std.proofs.Common.{◌≡◌, ℕ, List, Some, Result, Ok, Err, IsOk, refl, ap, sym, ◌∙◌}
 use Rattle.sdc_base.specs.Steps.{map_fault}
 use Rattle.sdc_base.specs.Trees.{Tree}
-use Rattle.linked_tables.specs.Tables.{book_of}
+use Rattle.sdc_base.specs.declared.dimension.Dimension.{Dimension}
+use Rattle.linked_tables.specs.Tables.{book_with_depths}
 use Rattle.office_io.specs.Files.{Files}
 use Rattle.rda_meta.specs.declared.meta.Shape.{Shape}
 use Rattle.rda_meta.specs.declared.meta.Shape.TheVariants as shape
@@ -65,6 +66,6 @@ pub microdata-comes : (purpose : Purpose) (files : Files) (name : List ℕ) (des
     → IsFile file.Microdata described.job.micro f held → InputsComeTo purpose files name f held
 microdata-comes purpose files name described fields f held read laid comes = rw comes.is_file (described, read, rw laid refl, comes.is_name)
 
-pub statements-come : (purpose : Purpose) (files : Files) (name : List ℕ) (inputs : Inputs) (given : List Tree × List (List ℕ)) (f : FileRef) (t : ℕ) (held : List ℕ) → f ≡ file.Apriori t → inputs_of purpose files name ≡ Ok inputs
-    → map_fault cells_fault (book_of inputs.records.trees inputs.described.bound.tables) ≡ Ok given → StatementsComeTo files inputs t held → InputsComeTo purpose files name f held
-statements-come purpose files name inputs given f t held is read linked comes = rw is (inputs, read, was-ok cells_fault (book_of inputs.records.trees inputs.described.bound.tables) given linked, comes)
+pub statements-come : (purpose : Purpose) (files : Files) (name : List ℕ) (inputs : Inputs) (given : List Tree × List (List Dimension)) (f : FileRef) (t : ℕ) (held : List ℕ) → f ≡ file.Apriori t → inputs_of purpose files name ≡ Ok inputs
+    → map_fault cells_fault (book_with_depths inputs.records.trees inputs.described.bound.tables) ≡ Ok given → StatementsComeTo files inputs t held → InputsComeTo purpose files name f held
+statements-come purpose files name inputs given f t held is read linked comes = rw is (inputs, read, was-ok cells_fault (book_with_depths inputs.records.trees inputs.described.bound.tables) given linked, comes)

@@ -8,6 +8,7 @@ use Rattle.sdc_base.specs.Records.{Name, row_falls}
 use Rattle.cost_rule.specs.Costs.{AreCosted}
 use Rattle.sdc_base.specs.RuleLevels.{keep_of}
 use Rattle.sdc_base.specs.Trees.{Tree}
+use Rattle.sdc_base.specs.declared.dimension.Dimension.{Dimension}
 use Rattle.sdc_base.specs.declared.rows.Row.{Row}
 use Rattle.linked_tables.specs.BookViews.{BookView}
 use Rattle.linked_tables.specs.BookCells.{cells as cells_in}
@@ -45,7 +46,7 @@ facts-of trees rows keep scale name mark h = record { truth = h.truth_is; freq =
 
 -- the book has as many cells as the inputs
 pub cells-are : (inputs : Inputs) (book : BookView) → IsBookOf inputs book → cells_in book ≡ cells_of inputs.records.trees inputs.described.bound.tables
-cells-are inputs book is = ap (λ (trees : List Tree). cells_of trees book.tables) is.trees ∙ ap (λ (tables : List (List ℕ)). cells_of inputs.records.trees tables) is.tables
+cells-are inputs book is = ap (λ (trees : List Tree). cells_of trees book.tables) is.trees ∙ ap (λ (tables : List (List Dimension)). cells_of inputs.records.trees tables) is.tables
 
 -- the marks have the facts of the records in their cells
 pub facts-in : (inputs : Inputs) (book : BookView) → IsBookOf inputs book → AreFactsIn book.marks inputs.records.trees (cells inputs) inputs.records.rows inputs.described.bound.scale
@@ -70,7 +71,7 @@ known-is inputs book is =
     same-maps (λ (mark : Mark). known_of mark.facts) (λ name. record { truth = truth_in inputs name; freq = freq inputs.records.trees name inputs.records.rows }) (cells inputs) book.marks facts.one_each
     (λ k name mark at holds. known-same (known_of mark.facts) (truth_in inputs name) (freq inputs.records.trees name inputs.records.rows) (facts.each k name mark at holds).0.truth (facts.each k name mark at holds).0.freq)
 
-basis-same : (one : Basis) (trees : List Tree) (tables : List (List ℕ)) (known : List KnownCell) → one.trees ≡ trees → one.tables ≡ tables → one.known ≡ known → one ≡ (record { trees = trees; tables = tables; known = known })
+basis-same : (one : Basis) (trees : List Tree) (tables : List (List Dimension)) (known : List KnownCell) → one.trees ≡ trees → one.tables ≡ tables → one.known ≡ known → one ≡ (record { trees = trees; tables = tables; known = known })
 basis-same one trees tables known a b c = rw (← a, ← b, ← c) refl
 
 -- so is what statements are held against

@@ -4,13 +4,14 @@ use Rattle.std.specs.Prelude.{slice_index, slice_index_or, All}
 use Rattle.std.specs.List.{AllByRecursion}
 use Rattle.std.proofs.lemmas.List.Elements.{All-nil, All-cons, All-head, All-tail}
 use Rattle.sdc_base.specs.Trees.{Tree}
+use Rattle.sdc_base.specs.declared.dimension.Dimension.{Dimension}
 use Rattle.sdc_base.specs.declared.rows.Row.{Row}
 use Rattle.sdc_base.specs.declared.rule.Rule.{Rule}
 use Rattle.sdc_base.specs.declared.rule.Rule.TheVariants as rule
 use Rattle.sdc_base.specs.declared.rule.Rules.{Rules}
 use Rattle.job_lang.specs.JobLimits.{AreInRange as AreJobRules, IsInRange as IsJobRule}
 use Rattle.linked_tables.specs.BlankMarks.{IsBlank}
-use Rattle.linked_tables.specs.Tables.{book_of, first_table_fault, unless_fault}
+use Rattle.linked_tables.specs.Tables.{book_with_depths, first_table_fault, unless_fault}
 use Rattle.linked_tables.specs.declared.book_fault.BookFault.{BookFault}
 use Rattle.linked_tables.specs.declared.mark.Mark.{Mark}
 use Rattle.microdata.specs.Ranges.{AreInTrees, IsRow as IsReadRow}
@@ -93,12 +94,12 @@ scale-range described h = subst (λ (n : ℕ). (1 ≤ n) × (n ≤ 10000)) (sym 
 
 -- ---- what the book is of
 
-made-of : (o : Option BookFault) (trees : List Tree) (tables : List (List ℕ)) (given : List Tree × List (List ℕ)) → unless_fault o (trees, tables) ≡ Ok given → (given.0 ≡ trees) × (given.1 ≡ tables)
+made-of : (o : Option BookFault) (trees : List Tree) (tables : List (List Dimension)) (given : List Tree × List (List Dimension)) → unless_fault o (trees, tables) ≡ Ok given → (given.0 ≡ trees) × (given.1 ≡ tables)
 made-of None trees tables given h =
-    let same : ◌≡◌ {A = List Tree × List (List ℕ)} (trees, tables) given = cc in
-    (ap (λ (x : List Tree × List (List ℕ)). x.0) (sym same), ap (λ (x : List Tree × List (List ℕ)). x.1) (sym same))
+    let same : ◌≡◌ {A = List Tree × List (List Dimension)} (trees, tables) given = cc in
+    (ap (λ (x : List Tree × List (List Dimension)). x.0) (sym same), ap (λ (x : List Tree × List (List Dimension)). x.1) (sym same))
 made-of (Some fault) trees tables given h = absurd cc
 
 -- a book has the trees and the tables that it is made of
-pub linked-is : (trees : List Tree) (tables : List (List ℕ)) (given : List Tree × List (List ℕ)) → book_of trees tables ≡ Ok given → (given.0 ≡ trees) × (given.1 ≡ tables)
+pub linked-is : (trees : List Tree) (tables : List (List Dimension)) (given : List Tree × List (List Dimension)) → book_with_depths trees tables ≡ Ok given → (given.0 ≡ trees) × (given.1 ≡ tables)
 linked-is trees tables given h = made-of (first_table_fault trees [] tables) trees tables given h

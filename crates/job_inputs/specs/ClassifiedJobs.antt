@@ -14,7 +14,7 @@ use Rattle.sdc_base.specs.declared.cell.Cell.{Cell}
 use Rattle.tabulate.specs.TabulatedMarks.{AreTabulated}
 use Rattle.linked_tables.specs.declared.mark.Mark.{Mark}
 use Rattle.linked_tables.specs.BookCells.{cells as cells_in}
-use Rattle.linked_tables.specs.Tables.{book_of}
+use Rattle.linked_tables.specs.Tables.{book_with_depths}
 use Rattle.job_lang.specs.declared.job.Job.{Job}
 use Rattle.job_lang.specs.declared.job.OutputLine.{OutputLine}
 use Rattle.office_io.specs.Files.{Files}
@@ -59,7 +59,7 @@ settled_cells inputs priors = map_fault prior_fault (settle_of inputs.described.
 unfoldable pub settled_of : Purpose → Files → List ℕ → Result SettledInputs Fault
 settled_of purpose files name = do
   inputs ← inputs_of purpose files name
-  linked ← map_fault cells_fault (book_of inputs.records.trees inputs.described.bound.tables)
+  linked ← map_fault cells_fault (book_with_depths inputs.records.trees inputs.described.bound.tables)
   priors ← priors_of files inputs
   cells ← settled_cells inputs priors
   fine ← refuse fault.OutName (overwrites_job name inputs.described.job)

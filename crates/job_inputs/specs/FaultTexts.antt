@@ -37,6 +37,7 @@ job_text job.Twice = codes "Twice"
 job_text job.TooMany = codes "TooMany"
 job_text job.OtherResponse = codes "OtherResponse"
 job_text job.NoSuchTable = codes "NoSuchTable"
+job_text job.NotInTable = codes "NotInTable"
 job_text job.SameName = codes "SameName"
 job_text (job.Missing which) = codes "Missing " ++ command_text which
 job_text job.NoSuchVariable = codes "NoSuchVariable"

@@ -7,7 +7,7 @@ use Rattle.rda_meta.specs.declared.meta.Shape.TheVariants as shape
 use Rattle.rda_meta.specs.declared.meta.Variable.{Variable}
 use Rattle.job_lang.specs.declared.job.Job.{Job}
 use Rattle.job_lang.specs.declared.job.PriorLine.{PriorLine}
-use Rattle.linked_tables.specs.Tables.{book_of}
+use Rattle.linked_tables.specs.Tables.{book_with_depths}
 use Rattle.job_inputs.specs.Inputs.{job_for, described_of, inputs_of}
 use Rattle.job_inputs.specs.CodeSources.{codes_in, fields_of, spanning_variables}
 use Rattle.job_inputs.specs.ReadFiles.{bytes_of_file}
@@ -100,5 +100,5 @@ InputsComeTo purpose files name file.Microdata held =
     (described : DescribedJob) × (described_of purpose files name ≡ Ok described)
     × IsOk (fields_of files (spanning_variables described)) × (held ≡ described.job.micro)
 InputsComeTo purpose files name (file.Apriori t) held = (inputs : Inputs) × (inputs_of purpose files name ≡ Ok inputs)
-    × IsOk (book_of inputs.records.trees inputs.described.bound.tables) × StatementsComeTo files inputs t held
+    × IsOk (book_with_depths inputs.records.trees inputs.described.bound.tables) × StatementsComeTo files inputs t held
 InputsComeTo purpose files name other held = ⊥

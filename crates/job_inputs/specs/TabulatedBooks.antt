@@ -1,6 +1,7 @@
 -- What holds of a job's book once its cells have their records (own).
-use Rattle.std.specs.Prelude.{◌≡◌, ◌<◌, ◌≤◌, ◌^◌, ℕ, List, length, All}
+use Rattle.std.specs.Prelude.{◌≡◌, ◌<◌, ◌≤◌, ◌^◌, List, length, All}
 use Rattle.sdc_base.specs.Trees.{Tree}
+use Rattle.sdc_base.specs.declared.dimension.Dimension.{Dimension}
 use Rattle.sdc_base.specs.declared.rows.Row.{Row}
 use Rattle.linked_tables.specs.BlankMarks.{IsBlank}
 use Rattle.sdc_base.specs.RuleLevels.{keep_of}
@@ -30,7 +31,7 @@ pub record IsReadyFor (described : DescribedJob) (book : BookView) : Type 0 wher
   pub keeps : All (λ mark. keep_of described.job.rules.list ≤ mark.facts.tops.keep) book.marks
 
 -- the book has these trees and tables, and no mark of it tells of a record yet
-pub record IsBlankBook (trees : List Tree) (tables : List (List ℕ)) (book : BookView) : Type 0 where
+pub record IsBlankBook (trees : List Tree) (tables : List (List Dimension)) (book : BookView) : Type 0 where
   pub trees_are : book.trees ≡ trees
   pub tables_are : book.tables ≡ tables
   pub blank : All IsBlank book.marks

@@ -1,5 +1,5 @@
 ghost use Rattle.sdc_base.specs.Steps.{map_fault};
-ghost use Rattle.linked_tables.specs.Tables.{book_of};
+ghost use Rattle.linked_tables.specs.Tables.{book_with_depths};
 ghost use Rattle.job_inputs.specs.CountedRecords.{IsReadyCountOf};
 ghost use Rattle.job_inputs.specs.Cells.{cells_fault};
 ghost use Rattle.job_inputs.specs.SoundJobs.{AreSound};
@@ -30,7 +30,7 @@ pub(crate) struct TabulatedJob {
 pub(crate) fn count_records(alloc: Global, inputs: Inputs) -> Result<TabulatedJob, Stop<Fault>>
     requires { AreSound inputs }
     ensures { IsReadAs (λ counted. (counted.book.trees, counted.book.tables))
-        (map_fault cells_fault (book_of inputs.records.trees inputs.described.bound.tables))
+        (map_fault cells_fault (book_with_depths inputs.records.trees inputs.described.bound.tables))
         (IsReadyCountOf inputs) result }
 {
     let Inputs { described, records } = inputs;

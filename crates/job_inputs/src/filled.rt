@@ -2,7 +2,7 @@ ghost use Rattle.std.specs.Prelude.{◌≡◌, ◌<◌, All, IfOk, length};
 ghost use Rattle.sdc_base.specs.Steps.{map_fault};
 ghost use Rattle.linked_tables.specs.BlankMarks.{IsBlank};
 ghost use Rattle.linked_tables.specs.BookCells as book_cells;
-ghost use Rattle.linked_tables.specs.Tables.{book_of};
+ghost use Rattle.linked_tables.specs.Tables.{book_with_depths};
 ghost use Rattle.job_inputs.specs.Refusals.{IsForCells, IsReadAs};
 ghost use Rattle.job_inputs.specs.Refusals as refusals;
 ghost use Rattle.job_inputs.specs.Cells.{cells_fault};
@@ -15,7 +15,7 @@ use code_trees::CodeTree;
 use linked_tables::{Book, BookFault};
 use plain_text::Stop;
 use primary_rules::keep;
-use sdc_base::{Items, Memory, Place, Row};
+use sdc_base::{Dimensions, Items, Memory, Row};
 use std::alloc::Global;
 use tabulate::tabulate;
 
@@ -31,18 +31,18 @@ pub(crate) fn linked_book(
     requires sound { IsSoundJob described.now }
     requires as_many { length trees ≡ length described.now.bound.spanning }
     ensures { IsReadAs (λ book. (book.trees, book.tables))
-        (map_fault cells_fault (book_of trees described.now.bound.tables))
+        (map_fault cells_fault (book_with_depths trees described.now.bound.tables))
         (IsBlankBook trees described.now.bound.tables) result }
 {
     let tables = copy_tables(alloc, described.bound.tables.as_slice())?;
-    match Book::new(alloc, trees.into_vec(), tables) {
+    match Book::with_depths(alloc, trees.into_vec(), tables) {
         Ok(book) => Ok(book),
         Err(fault) => Err(cells_refusal(fault)),
     }
 }
 
 // A copy of tables.
-fn copy_tables(alloc: Global, tables: &[Place]) -> Result<Vec<Place>, Memory>
+fn copy_tables(alloc: Global, tables: &[Dimensions]) -> Result<Vec<Dimensions>, Memory>
     ensures { IfOk result (λ copies. copies.items ≡ tables.now) }
 {
     let mut copies = Vec::new(alloc);

@@ -31,6 +31,7 @@ impl Display for JobKind {
             JobWhy::TooMany => write!(f, "TooMany"),
             JobWhy::OtherResponse => write!(f, "OtherResponse"),
             JobWhy::NoSuchTable => write!(f, "NoSuchTable"),
+            JobWhy::NotInTable => write!(f, "NotInTable"),
             JobWhy::SameName => write!(f, "SameName"),
             JobWhy::Missing(which) => {
                 let command = command_word(which);

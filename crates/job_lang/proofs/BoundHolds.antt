@@ -9,10 +9,12 @@ use Rattle.std.specs.Str.{bytes_eq}
 use Rattle.sdc_base.specs.Places.{first_place}
 use Rattle.rda_meta.specs.declared.meta.Variable.{Variable}
 use Rattle.job_lang.specs.declared.faults.JobWhy.{JobWhy}
+use Rattle.sdc_base.specs.declared.dimension.Dimension.{Dimension}
+use Rattle.job_lang.specs.declared.job.DepthLine.{DepthLine}
 use Rattle.job_lang.specs.declared.job.Job.{Job}
 use Rattle.job_lang.specs.declared.job.OutputLine.{OutputLine}
 use Rattle.job_lang.specs.declared.job.TableLine.{TableLine}
-use Rattle.job_lang.specs.Binding.{places_from, spanning_of, variable_place, spanning_place, table_places, response_of, places_of}
+use Rattle.job_lang.specs.Binding.{places_from, spanning_of, variable_place, spanning_place, depth_of, table_dimensions, dimensions_from, response_of, places_of}
 use Rattle.job_lang.specs.BindingFaults.{is_named, is_absent, is_numeric_named, is_numeric, table_fault, weight_fault, is_spanning, file_fault, earlier_fault, tables_fault, outputs_fault, contributors_fault, earliest_fault}
 use Rattle.job_lang.specs.JobLimits.{HasNoTwice, AreTables}
 use Rattle.job_lang.specs.BoundLimits.{AreVariables, AreAscending, IsNumericAt, IsBound}
@@ -271,27 +273,42 @@ unfolding IsDistinct
 distinct_spots spanning variables [] all distinct = tt
 distinct_spots spanning variables (q ∷ names) all distinct = (apart_spots spanning variables q names all.0 all.1 distinct.0, distinct_spots spanning variables names all.1 distinct.1)
 
-within_spots : (spanning : List ℕ) (variables : List Variable) (names : List (List ℕ)) → AllByRecursion (IsSpot spanning variables) names → AllByRecursion (λ k. k < length spanning) (map (λ name. spanning_place spanning variables name) names)
-within_spots spanning variables [] all = tt
-within_spots spanning variables (q ∷ names) all = (all.0.within, within_spots spanning variables names all.1)
+-- the dimensions of the variables of these names in the table at this place
+abbrev pub dimensions_of : List ℕ → List Variable → List DepthLine → ℕ → List (List ℕ) → List Dimension
+dimensions_of spanning variables depths place names = map (λ name. record { variable = spanning_place spanning variables name; depth = depth_of depths place name }) names
 
-tables_within : (spanning : List ℕ) (variables : List Variable) (tables : List TableLine) → AllByRecursion (λ t. AllByRecursion (IsSpot spanning variables) t.variables) tables
-    → AllByRecursion (λ places. AllByRecursion (λ k. k < length spanning) places) (map (λ t. table_places spanning variables t) tables)
-tables_within spanning variables [] all = tt
-tables_within spanning variables (t ∷ tables) all = (within_spots spanning variables t.variables all.0, tables_within spanning variables tables all.1)
+within_spots : (spanning : List ℕ) (variables : List Variable) (depths : List DepthLine) (place : ℕ) (names : List (List ℕ)) → AllByRecursion (IsSpot spanning variables) names
+    → AllByRecursion (λ (one : Dimension). one.variable < length spanning) (dimensions_of spanning variables depths place names)
+within_spots spanning variables depths place [] all = tt
+within_spots spanning variables depths place (q ∷ names) all = (all.0.within, within_spots spanning variables depths place names all.1)
 
-tables_distinct : (spanning : List ℕ) (variables : List Variable) (tables : List TableLine) → AllByRecursion (λ t. AllByRecursion (IsSpot spanning variables) t.variables) tables → AllByRecursion HasNoTwice tables
-    → AllByRecursion (λ places. IsDistinct ◌==◌ places) (map (λ t. table_places spanning variables t) tables)
-tables_distinct spanning variables [] all once = tt
-tables_distinct spanning variables (t ∷ tables) all once = (distinct_spots spanning variables t.variables all.0 once.0, tables_distinct spanning variables tables all.1 once.1)
+tables_within : (spanning : List ℕ) (variables : List Variable) (depths : List DepthLine) (place : ℕ) (tables : List TableLine) → AllByRecursion (λ t. AllByRecursion (IsSpot spanning variables) t.variables) tables
+    → AllByRecursion (λ dimensions. AllByRecursion (λ (one : Dimension). one.variable < length spanning) dimensions) (dimensions_from spanning variables depths place tables)
+tables_within spanning variables depths place [] all = tt
+tables_within spanning variables depths place (t ∷ tables) all = (within_spots spanning variables depths place t.variables all.0, tables_within spanning variables depths (place + 1) tables all.1)
 
-map_wide : (f : List ℕ → ℕ) (names : List (List ℕ)) → length (map f names) ≡ length names
+variables_of : (spanning : List ℕ) (variables : List Variable) (depths : List DepthLine) (place : ℕ) (names : List (List ℕ))
+    → map (λ (one : Dimension). one.variable) (dimensions_of spanning variables depths place names) ≡ map (λ name. spanning_place spanning variables name) names
+variables_of spanning variables depths place [] = refl
+variables_of spanning variables depths place (q ∷ names) = ap (λ (rest : List ℕ). spanning_place spanning variables q ∷ rest) (variables_of spanning variables depths place names)
+
+tables_distinct : (spanning : List ℕ) (variables : List Variable) (depths : List DepthLine) (place : ℕ) (tables : List TableLine) → AllByRecursion (λ t. AllByRecursion (IsSpot spanning variables) t.variables) tables → AllByRecursion HasNoTwice tables
+    → AllByRecursion (λ dimensions. IsDistinct ◌==◌ (map (λ (one : Dimension). one.variable) dimensions)) (dimensions_from spanning variables depths place tables)
+tables_distinct spanning variables depths place [] all once = tt
+tables_distinct spanning variables depths place (t ∷ tables) all once = (
+  subst (λ (list : List ℕ). IsDistinct ◌==◌ list) (sym (variables_of spanning variables depths place t.variables)) (distinct_spots spanning variables t.variables all.0 once.0),
+  tables_distinct spanning variables depths (place + 1) tables all.1 once.1,
+)
+
+map_wide : (f : List ℕ → Dimension) (names : List (List ℕ)) → length (map f names) ≡ length names
 map_wide f [] = refl
 map_wide f (n ∷ names) = ap suc (map_wide f names)
 
-tables_wide : (spanning : List ℕ) (variables : List Variable) (tables : List TableLine) → map (λ (places : List ℕ). length places) (map (λ t. table_places spanning variables t) tables) ≡ map (λ t. length t.variables) tables
-tables_wide spanning variables [] = refl
-tables_wide spanning variables (t ∷ tables) = rw (map_wide (λ name. spanning_place spanning variables name) t.variables, tables_wide spanning variables tables) refl
+tables_wide : (spanning : List ℕ) (variables : List Variable) (depths : List DepthLine) (place : ℕ) (tables : List TableLine)
+    → map (λ (dimensions : List Dimension). length dimensions) (dimensions_from spanning variables depths place tables) ≡ map (λ t. length t.variables) tables
+tables_wide spanning variables depths place [] = refl
+tables_wide spanning variables depths place (t ∷ tables) =
+    rw (map_wide (λ name. record { variable = spanning_place spanning variables name; depth = depth_of depths place name }) t.variables, tables_wide spanning variables depths (place + 1) tables) refl
 
 -- ---- the response
 
@@ -356,9 +373,9 @@ bound_known job variables is fit none =
           let same : 0 + k ≡ k = omega arith in
           let known = plain_name variables v.name job.tables free.tables spans in
           (v, ap (slice_get variables) same ∙ at, not_numeric variables k v at known.plain));
-      tables = tables_wide (spanning_of job.tables variables) variables job.tables;
-      within = tables_within (spanning_of job.tables variables) variables job.tables spots;
-      once = tables_distinct (spanning_of job.tables variables) variables job.tables spots is.once;
+      tables = tables_wide (spanning_of job.tables variables) variables job.depths 0 job.tables;
+      within = tables_within (spanning_of job.tables variables) variables job.depths 0 job.tables spots;
+      once = tables_distinct (spanning_of job.tables variables) variables job.depths 0 job.tables spots is.once;
       response = response_numeric variables job.tables is.has_table fit.names free.tables;
       decimals = let a = response_few job.tables variables fit in let b = weight_few job.rules variables fit in omega (arith, a, b);
       scale = (refl, weight_few job.rules variables fit);

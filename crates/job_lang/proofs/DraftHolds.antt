@@ -11,27 +11,28 @@ use Rattle.std.specs.List.{AllByRecursion, IsDistinct}
 use Rattle.std.specs.Set.{distinct_count}
 use Rattle.std.specs.Str.{bytes_eq}
 use Rattle.sdc_base.specs.Blanks.{trim}
+use Rattle.sdc_base.specs.CutTrees.{whole_depth}
 use Rattle.sdc_base.specs.Steps.{◌>>=◌, or_fault, refuse}
 use Rattle.job_lang.specs.declared.faults.JobWhy.{JobWhy}
 use Rattle.job_lang.specs.declared.faults.JobWhy.TheVariants.{BadValue, UnknownCommand, Twice, TooMany, OtherResponse}
 use Rattle.job_lang.specs.declared.job.TableLine.{TableLine}
 use Rattle.job_lang.specs.declared.statement.Keyword.{Keyword}
-use Rattle.job_lang.specs.declared.statement.Keyword.TheVariants.{OpenMicrodata, OpenMetadata, SpecifyTable, SafetyRule, ReadMicrodata, Apriori, Cost, Steps, Nodes, Suppress, WriteTable, Certificate, Contributors}
+use Rattle.job_lang.specs.declared.statement.Keyword.TheVariants.{OpenMicrodata, OpenMetadata, SpecifyTable, SafetyRule, ReadMicrodata, Apriori, Cost, Steps, Nodes, Suppress, WriteTable, Certificate, Contributors, Depth}
 use Rattle.job_lang.specs.declared.statement.Instruction.{Instruction}
 use Rattle.job_lang.specs.declared.statement.Instruction.TheVariants as said
 use Rattle.job_lang.specs.declared.statement.Draft.{Draft}
 use Rattle.job_lang.specs.Faults.{at_line}
-use Rattle.job_lang.specs.LineTokens.{is_next, behind_mark, quoted_at, digits_at, end_of_tokens, closing_token}
+use Rattle.job_lang.specs.LineTokens.{is_next, behind_mark, quoted_at, number_at, digits_at, end_of_tokens, closing_token}
 use Rattle.job_lang.specs.Keywords.{keyword_of, word_in}
 use Rattle.job_lang.specs.RuleTexts.{rules_in}
 use Rattle.job_lang.specs.TableTexts.{most_variables, names_up_to, is_twice, quoted_part, behind_again, are_free_parts, table_argument}
-use Rattle.job_lang.specs.Arguments.{file_at, only_file, separator_of, prior_argument, output_argument, cost_argument, work_argument, argument_of}
+use Rattle.job_lang.specs.Arguments.{file_at, only_file, separator_of, prior_argument, output_argument, depth_argument, cost_argument, work_argument, argument_of}
 use Rattle.job_lang.specs.MethodTexts.{method_argument}
 use Rattle.job_lang.specs.Statements.{is_again, names_in, is_past_room, is_other_response, with_table, with_statement, with_said, is_passed_over, command_line, text_says, lines_say, empty_draft}
 use Rattle.job_lang.specs.Binding.{response_of}
 use Rattle.job_lang.specs.JobLimits.{HasNoTwice, HasVariables, AreInRange, IsMethod, IsWork}
 use Rattle.job_lang.proofs.Known.{then_known, known, either_known, not_refused, all_and_last}
-use Rattle.job_lang.proofs.ClausesHold.{rules_known, work_known, method_known}
+use Rattle.job_lang.proofs.ClausesHold.{number_known, rules_known, work_known, method_known}
 
 -- what is said of a table, rules, a method and work is within the limits
 abbrev pub IsSaid : Instruction → Type 0
@@ -40,6 +41,7 @@ IsSaid (said.Safety rules) = AreInRange rules
 IsSaid (said.Steps steps) = IsWork steps
 IsSaid (said.Nodes nodes) = IsWork nodes
 IsSaid (said.Suppress method) = IsMethod method
+IsSaid (said.Depth number variable depth) = (1 ≤ depth) × (depth ≤ whole_depth)
 IsSaid one = Unit {0}
 
 -- ---- arguments
@@ -98,6 +100,17 @@ output_known text =
     then_known IsSaid (file_at comma) _ (λ file h3.
     then_known IsSaid (closing_token file.1) _ (λ end h4. tt)))))
 
+depth_known : (text : List ℕ) → IfOk (depth_argument text) IsSaid
+unfolding depth_argument
+depth_known text =
+    then_known IsSaid (behind_mark 40 text) _ (λ open_ h.
+    then_known IsSaid (digits_at open_) _ (λ number h1.
+    then_known IsSaid (behind_mark 44 number.1) _ (λ comma h2.
+    then_known IsSaid (quoted_at comma) _ (λ variable h3.
+    then_known IsSaid (behind_mark 44 variable.1) _ (λ again h4.
+    then_known IsSaid (number_at 1 whole_depth again) _ (λ depth h5.
+    then_known IsSaid (closing_token depth.1) _ (λ end h6. known (λ (depth : ℕ × List ℕ). (1 ≤ depth.0) × (depth.0 ≤ whole_depth)) (number_at 1 whole_depth again) depth (number_known 1 whole_depth again) h5)))))))
+
 pub argument_known : (keyword : Keyword) (text : List ℕ) → IfOk (argument_of keyword text) IsSaid
 unfolding argument_of
 argument_known OpenMicrodata text = then_known IsSaid (only_file text) _ (λ name h. tt)
@@ -113,6 +126,7 @@ argument_known Suppress text = then_known IsSaid (method_argument text) _ (λ me
 argument_known WriteTable text = output_known text
 argument_known Certificate text = then_known IsSaid (only_file text) _ (λ name h. tt)
 argument_known Contributors text = then_known IsSaid (only_file text) _ (λ name h. tt)
+argument_known Depth text = depth_known text
 
 -- ---- lines
 

@@ -7,10 +7,11 @@ use Rattle.sdc_base.specs.Lines.{lines}
 use Rattle.sdc_base.specs.Steps.{◌>>=◌, refuse}
 use Rattle.sdc_base.proofs.StepLemmas.{bind_err, bind_ok}
 use Rattle.job_lang.specs.declared.faults.JobWhy.{JobWhy}
-use Rattle.job_lang.specs.declared.faults.JobWhy.TheVariants.{BadValue, NoSuchTable, SameName, Missing}
+use Rattle.job_lang.specs.declared.faults.JobWhy.TheVariants.{BadValue, NoSuchTable, NotInTable, SameName, Missing}
 use Rattle.job_lang.specs.declared.faults.Command.{Command}
 use Rattle.job_lang.specs.declared.faults.Command.TheVariants as command
 use Rattle.job_lang.specs.declared.job.OutputLine.{OutputLine}
+use Rattle.job_lang.specs.declared.job.TableLine.{TableLine}
 use Rattle.job_lang.specs.declared.statement.Keyword.TheVariants as keyword
 use Rattle.job_lang.specs.declared.statement.Statement.{Statement}
 use Rattle.job_lang.specs.declared.statement.Draft.{Draft}
@@ -19,9 +20,10 @@ use Rattle.job_lang.specs.Statements.{text_says, lines_say, empty_draft}
 use Rattle.job_lang.specs.ClosingLooks.{statement_by, file_line, rules_line, method_of, output_said}
 use Rattle.job_lang.specs.MissingCommands.{needed_value, output_of_table, outputs_from}
 use Rattle.job_lang.specs.FilesApart.{is_astray, no_stray, puts_shared_file, no_same_name}
+use Rattle.job_lang.specs.SpannedDepths.{is_outside, no_outside}
 use Rattle.job_lang.specs.RoundedContributors.{unless_line, no_rounded_contributors}
 use Rattle.job_lang.specs.Jobs.{job_made, closed_job, job_of}
-use Rattle.job_lang.specs.Laws.{IsLineFault, lacks_output, lacks_command, must_have, rounds, has_unfit_line, IsUnfitLine, IsFirstStray, IsFirstMeeting, IsFirstLack}
+use Rattle.job_lang.specs.Laws.{IsLineFault, lacks_output, lacks_command, must_have, rounds, has_unfit_line, IsUnfitLine, IsFirstStray, IsFirstOutside, IsFirstMeeting, IsFirstLack}
 use Rattle.job_lang.proofs.Known.{not_refused}
 
 -- ---- lines
@@ -89,6 +91,25 @@ no_strays count (s ∷ rest) t h =
     elim (is_astray count s.said) as (λ b. cond b (Err (s.line, NoSuchTable)) (no_stray count rest) ≡ Ok t → (b || list_any (λ s. is_astray count s.said) rest) ≡ false) [
       | true ↦ λ g. absurd cc
       | false ↦ λ g. no_strays count rest t g
+    ] h
+
+outside_fault : (tables : List TableLine) (said : List Statement) (line : ℕ) (why : JobWhy) → no_outside tables said ≡ Err (line, why)
+    → (s : Statement) × (find (λ s. is_outside tables s.said) said ≡ Some s) × (line ≡ s.line) × (why ≡ NotInTable)
+unfolding no_outside
+outside_fault tables [] line why h = absurd cc
+outside_fault tables (s ∷ rest) line why h =
+    elim (is_outside tables s.said) as (λ t. cond t (Err (s.line, NotInTable)) (no_outside tables rest) ≡ Err (line, why) → (x : Statement) × (cond t (Some s) (find (λ s. is_outside tables s.said) rest) ≡ Some x) × (line ≡ x.line) × (why ≡ NotInTable)) [
+      | true ↦ λ g. let both = pair_of line s.line why NotInTable g in (s, refl, both.0, both.1)
+      | false ↦ λ g. outside_fault tables rest line why g
+    ] h
+
+pub none_outside : (tables : List TableLine) (said : List Statement) (t : Unit {0}) → no_outside tables said ≡ Ok t → list_any (λ s. is_outside tables s.said) said ≡ false
+unfolding no_outside
+none_outside tables [] t h = refl
+none_outside tables (s ∷ rest) t h =
+    elim (is_outside tables s.said) as (λ b. cond b (Err (s.line, NotInTable)) (no_outside tables rest) ≡ Ok t → (b || list_any (λ s. is_outside tables s.said) rest) ≡ false) [
+      | true ↦ λ g. absurd cc
+      | false ↦ λ g. none_outside tables rest t g
     ] h
 
 shared_fault : (all said : List Statement) (line : ℕ) (why : JobWhy) → no_same_name all said ≡ Err (line, why) → (s : Statement) × (find (λ s. puts_shared_file all s.said) said ≡ Some s) × (line ≡ s.line) × (why ≡ SameName)
@@ -194,7 +215,7 @@ first_lack draft line why h =
 
 -- the fault of the closing looks at what lines say
 abbrev IsClosing : Draft → ℕ → JobWhy → Type 0
-IsClosing draft line why = IsUnfitLine draft line why ⊎ IsFirstStray draft line why ⊎ IsFirstMeeting draft line why ⊎ IsFirstLack draft line why
+IsClosing draft line why = IsUnfitLine draft line why ⊎ IsFirstStray draft line why ⊎ IsFirstOutside draft line why ⊎ IsFirstMeeting draft line why ⊎ IsFirstLack draft line why
 
 closing : (draft : Draft) (line : ℕ) (why : JobWhy) → closed_job draft ≡ Err (line, why) → IsClosing draft line why
 unfolding closed_job
@@ -207,18 +228,23 @@ closing draft line why h =
             | inl failed ↦ let s = stray_fault (length draft.tables) draft.said line why failed in inr (inl (s.0, f, s.1, s.2, s.3))
             | inr (placed, is_placed, h) ↦
                 let a = no_strays (length draft.tables) draft.said placed is_placed in
-                elim (bind_err (no_same_name draft.said draft.said) _ (line, why) h) as (λ _. IsClosing draft line why) [
-                  | inl failed ↦ let m = shared_fault draft.said draft.said line why failed in inr (inr (inl (m.0, f, a, m.1, m.2, m.3)))
-                  | inr (apart, is_apart, h) ↦
-                      let b = no_shared_file draft.said draft.said apart is_apart in
-                      let l = first_lack draft line why h in
-                      inr (inr (inr (l.0, f, a, b, l.1, l.2, l.3)))
+                elim (bind_err (no_outside draft.tables draft.said) _ (line, why) h) as (λ _. IsClosing draft line why) [
+                  | inl failed ↦ let o = outside_fault draft.tables draft.said line why failed in inr (inr (inl (o.0, f, a, o.1, o.2, o.3)))
+                  | inr (spanned, is_spanned, h) ↦
+                      let n = none_outside draft.tables draft.said spanned is_spanned in
+                      elim (bind_err (no_same_name draft.said draft.said) _ (line, why) h) as (λ _. IsClosing draft line why) [
+                        | inl failed ↦ let m = shared_fault draft.said draft.said line why failed in inr (inr (inr (inl (m.0, f, a, n, m.1, m.2, m.3))))
+                        | inr (apart, is_apart, h) ↦
+                            let b = no_shared_file draft.said draft.said apart is_apart in
+                            let l = first_lack draft line why h in
+                            inr (inr (inr (inr (l.0, f, a, n, b, l.1, l.2, l.3))))
+                      ]
                 ]
           ]
     ]
 
 pub in_order : (bytes : List ℕ) (line : ℕ) (why : JobWhy) → job_of bytes ≡ Err (line, why)
-    → IsLineFault (lines bytes) line why ⊎ ((draft : Draft) × (lines_say 0 empty_draft (lines bytes) ≡ Ok draft) × (IsUnfitLine draft line why ⊎ IsFirstStray draft line why ⊎ IsFirstMeeting draft line why ⊎ IsFirstLack draft line why))
+    → IsLineFault (lines bytes) line why ⊎ ((draft : Draft) × (lines_say 0 empty_draft (lines bytes) ≡ Ok draft) × IsClosing draft line why)
 unfolding job_of
 in_order bytes line why h =
     elim (bind_err (lines_say 0 empty_draft (lines bytes)) _ (line, why) h) [

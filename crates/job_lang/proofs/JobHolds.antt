@@ -1,6 +1,6 @@
 -- What holds of a job that is read.
 use Rattle.std.proofs.Common.{◌≡◌, ℕ, zero, suc, ◌+◌, ◌<◌, ◌≤◌, Bool, true, false, cond, List, [], ◌∷◌, ◌++◌, length, Option, None, Some, Ok, Err, refl, ap, subst, arith}
-use Rattle.std.specs.Prelude.{◌==◌, nat_le, ◌&&◌, find, is_none}
+use Rattle.std.specs.Prelude.{◌==◌, nat_le, ◌&&◌, not, find, is_none, slice_get}
 use Rattle.std.specs.Result.{IfOk}
 use Rattle.std.specs.List.{AllByRecursion}
 use Rattle.sdc_base.specs.Lines.{lines}
@@ -9,9 +9,11 @@ use Rattle.sdc_base.specs.Tokens.{is_number}
 use Rattle.std.specs.Str.Parse.{digits_value}
 use Rattle.sdc_base.specs.declared.method.Method.{Method}
 use Rattle.sdc_base.specs.declared.method.Method.TheVariants.{Gh, Modular, Rnd}
-use Rattle.job_lang.specs.declared.faults.JobWhy.TheVariants.{Missing, NoSuchTable}
+use Rattle.job_lang.specs.declared.faults.JobWhy.TheVariants.{Missing, NoSuchTable, NotInTable}
 use Rattle.job_lang.specs.declared.faults.Command.TheVariants as command
+use Rattle.job_lang.specs.declared.job.DepthLine.{DepthLine}
 use Rattle.job_lang.specs.declared.job.PriorLine.{PriorLine}
+use Rattle.job_lang.specs.declared.job.TableLine.{TableLine}
 use Rattle.job_lang.specs.declared.looked_up.RulesLine.{RulesLine}
 use Rattle.job_lang.specs.declared.statement.Keyword.{Keyword}
 use Rattle.job_lang.specs.declared.statement.Keyword.TheVariants as keyword
@@ -20,12 +22,13 @@ use Rattle.job_lang.specs.declared.statement.Instruction.TheVariants as said
 use Rattle.job_lang.specs.declared.statement.Statement.{Statement}
 use Rattle.job_lang.specs.declared.statement.Draft.{Draft}
 use Rattle.job_lang.specs.Statements.{is_by, lines_say, empty_draft}
-use Rattle.job_lang.specs.ClosingLooks.{statement_by, file_line, rules_from, rules_line, method_from, method_of, work_from, work_of, usual_steps, usual_nodes, table_place, prior_in, priors_in}
+use Rattle.job_lang.specs.ClosingLooks.{statement_by, file_line, rules_from, rules_line, method_from, method_of, work_from, work_of, usual_steps, usual_nodes, table_place, prior_in, priors_in, depth_in, depths_in}
 use Rattle.job_lang.specs.MissingCommands.{needed_value, output_of_table, outputs_from}
 use Rattle.job_lang.specs.FilesApart.{is_no_table, is_astray, no_stray, no_same_name}
+use Rattle.job_lang.specs.SpannedDepths.{spans_table, is_outside, no_outside}
 use Rattle.job_lang.specs.RoundedContributors.{is_rounding, unless_line, no_rounded_contributors}
 use Rattle.job_lang.specs.Jobs.{job_made, closed_job, job_of}
-use Rattle.job_lang.specs.JobLimits.{AreInRange, IsMethod, IsWork, CanHaveContributors, IsJob}
+use Rattle.job_lang.specs.JobLimits.{AreInRange, IsMethod, IsWork, CanHaveContributors, IsDepth, IsJob}
 use Rattle.job_lang.proofs.Known.{then_known, known, not_refused, was_some}
 use Rattle.job_lang.proofs.DraftHolds.{IsSaid, IsDraft, lines_known}
 
@@ -112,6 +115,42 @@ priors_known count (s ∷ rest) t few h =
       | false ↦ λ is g. all_both (λ (p : PriorLine). p.table < count) (prior_in s.line s.said) (priors_in rest) (one is) (others g)
     ] refl h
 
+-- ---- depths
+
+within_table : (tables : List TableLine) (line : ℕ) (one : Instruction) → length tables ≤ 8 → IsSaid one → is_astray (length tables) one ≡ false → is_outside tables one ≡ false → AllByRecursion (IsDepth tables) (depth_in line one)
+within_table tables line (said.Depth number variable depth) few fits placed inside =
+    (record { table = place_within (length tables) number few placed; spanned = was_true (spans_table variable (slice_get tables (table_place number))) inside; depth = fits }, tt)
+  where
+    was_true : (t : Bool) → not t ≡ false → t ≡ true
+    was_true true h = refl
+    was_true false h = absurd cc
+within_table tables line one few fits placed inside = tt
+
+-- no statement is of no table, and no depth is of a variable that its table doesn't span
+none_astray : (count : ℕ) (all : List Statement) (t : Unit {0}) → no_stray count all ≡ Ok t → AllByRecursion (λ s. is_astray count s.said ≡ false) all
+unfolding no_stray
+none_astray count [] t h = tt
+none_astray count (s ∷ rest) t h =
+    elim (is_astray count s.said) as (λ b. cond b (Err (s.line, NoSuchTable)) (no_stray count rest) ≡ Ok t → (b ≡ false) × AllByRecursion (λ s. is_astray count s.said ≡ false) rest) [
+      | true ↦ λ g. absurd cc
+      | false ↦ λ g. (refl, none_astray count rest t g)
+    ] h
+
+all_inside : (tables : List TableLine) (all : List Statement) (t : Unit {0}) → no_outside tables all ≡ Ok t → AllByRecursion (λ s. is_outside tables s.said ≡ false) all
+unfolding no_outside
+all_inside tables [] t h = tt
+all_inside tables (s ∷ rest) t h =
+    elim (is_outside tables s.said) as (λ b. cond b (Err (s.line, NotInTable)) (no_outside tables rest) ≡ Ok t → (b ≡ false) × AllByRecursion (λ s. is_outside tables s.said ≡ false) rest) [
+      | true ↦ λ g. absurd cc
+      | false ↦ λ g. (refl, all_inside tables rest t g)
+    ] h
+
+depths_known : (tables : List TableLine) (all : List Statement) → length tables ≤ 8 → AllByRecursion (λ s. IsSaid s.said) all → AllByRecursion (λ s. is_astray (length tables) s.said ≡ false) all
+    → AllByRecursion (λ s. is_outside tables s.said ≡ false) all → AllByRecursion (IsDepth tables) (depths_in all)
+depths_known tables [] few said placed inside = tt
+depths_known tables (s ∷ rest) few said placed inside =
+    all_both (IsDepth tables) (depth_in s.line s.said) (depths_in rest) (within_table tables s.line s.said few said.0 placed.0 inside.0) (depths_known tables rest few said.1 placed.1 inside.1)
+
 -- ---- the job
 
 some_tables : (n : ℕ) → (n == 0) ≡ false → 0 < n
@@ -128,9 +167,10 @@ contributors_fit : (all : List Statement) (method : Method) (t : Unit {0}) → n
 unfolding no_rounded_contributors
 contributors_fit all method t h is = fits_by method (statement_by keyword.Contributors all) t (subst (λ (m : Option Method). unless_line (is_rounding m) (statement_by keyword.Contributors all) ≡ Ok t) is h)
 
-made_known : (draft : Draft) (t : Unit {0}) → IsDraft draft → no_rounded_contributors draft.said ≡ Ok t → AllByRecursion (λ (p : PriorLine). p.table < length draft.tables) (priors_in draft.said) → IfOk (job_made draft) IsJob
+made_known : (draft : Draft) (t : Unit {0}) → IsDraft draft → no_rounded_contributors draft.said ≡ Ok t → AllByRecursion (λ (p : PriorLine). p.table < length draft.tables) (priors_in draft.said)
+    → AllByRecursion (IsDepth draft.tables) (depths_in draft.said) → IfOk (job_made draft) IsJob
 unfolding job_made
-made_known draft t is fit placed =
+made_known draft t is fit placed depths =
     then_known IsJob (needed_value command.OpenMicrodata (file_line (statement_by keyword.OpenMicrodata draft.said))) _ (λ micro h.
     then_known IsJob (needed_value command.OpenMetadata (file_line (statement_by keyword.OpenMetadata draft.said))) _ (λ meta h1.
     then_known IsJob (refuse (0, Missing command.SpecifyTable) (length draft.tables == 0)) _ (λ some h2.
@@ -153,6 +193,7 @@ made_known draft t is fit placed =
       method = method_of_known (statement_by keyword.Suppress draft.said) method (by_known keyword.Suppress draft.said is.said) (was_some (0, Missing command.Suppress) (method_of (statement_by keyword.Suppress draft.said)) method h4);
       steps = work_of_known usual_steps (statement_by keyword.Steps draft.said) (by_known keyword.Steps draft.said is.said) (omega arith, omega arith);
       nodes = work_of_known usual_nodes (statement_by keyword.Nodes draft.said) (by_known keyword.Nodes draft.said is.said) (omega arith, omega arith);
+      depths = depths;
       contributors = contributors_fit draft.said method t fit (was_some (0, Missing command.Suppress) (method_of (statement_by keyword.Suppress draft.said)) method h4);
     })))))))
 
@@ -161,7 +202,10 @@ unfolding closed_job
 closed_known draft is =
     then_known IsJob (no_rounded_contributors draft.said) _ (λ fit g.
     then_known IsJob (no_stray (length draft.tables) draft.said) _ (λ placed h.
-    then_known IsJob (no_same_name draft.said draft.said) _ (λ apart h1. made_known draft fit is g (priors_known (length draft.tables) draft.said placed is.few h))))
+    then_known IsJob (no_outside draft.tables draft.said) _ (λ spanned h1.
+    then_known IsJob (no_same_name draft.said draft.said) _ (λ apart h2.
+    made_known draft fit is g (priors_known (length draft.tables) draft.said placed is.few h)
+    (depths_known draft.tables draft.said is.few is.said (none_astray (length draft.tables) draft.said placed h) (all_inside draft.tables draft.said spanned h1))))))
 
 pub job_known : (bytes : List ℕ) → IfOk (job_of bytes) IsJob
 unfolding job_of

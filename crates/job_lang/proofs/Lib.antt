@@ -10,7 +10,7 @@ pub mod ClausesHold
 pub mod DraftHolds
 pub mod JobHolds
 pub mod PlacesFit
-pub mod Placed
+pub mod DimensionLists
 pub mod BoundHolds
 pub mod RowsHold
 pub mod FirstFault

@@ -13,9 +13,10 @@ use Rattle.job_lang.specs.declared.looked_up.RulesLine.{RulesLine}
 use Rattle.job_lang.specs.declared.statement.Keyword.TheVariants as keyword
 use Rattle.job_lang.specs.declared.statement.Draft.{Draft}
 use Rattle.job_lang.specs.Statements.{lines_say, empty_draft}
-use Rattle.job_lang.specs.ClosingLooks.{statement_by, file_line, rules_line, method_of, cost_of, work_of, usual_steps, usual_nodes, priors_in}
+use Rattle.job_lang.specs.ClosingLooks.{statement_by, file_line, rules_line, method_of, cost_of, work_of, usual_steps, usual_nodes, priors_in, depths_in}
 use Rattle.job_lang.specs.MissingCommands.{needed_value, outputs_from}
 use Rattle.job_lang.specs.FilesApart.{no_stray, no_same_name}
+use Rattle.job_lang.specs.SpannedDepths.{no_outside}
 use Rattle.job_lang.specs.RoundedContributors.{no_rounded_contributors}
 use Rattle.job_lang.specs.Jobs.{job_made, closed_job, job_of}
 use Rattle.job_lang.proofs.Known.{was_some, same_value}
@@ -37,6 +38,7 @@ job_with draft micro meta rules method outputs certificate = record {
   certificate = certificate.file;
   certificate_line = certificate.line;
   contributors = file_line (statement_by keyword.Contributors draft.said);
+  depths = depths_in draft.said;
 }
 
 pub record IsMade (draft : Draft) (job : Job) : Type 0 where
@@ -87,6 +89,7 @@ pub record IsRead (bytes : List ℕ) (job : Job) : Type 0 where
   pub says : lines_say 0 empty_draft (lines bytes) ≡ Ok draft
   pub fit : no_rounded_contributors draft.said ≡ Ok tt
   pub placed : no_stray (length draft.tables) draft.said ≡ Ok tt
+  pub spanned : no_outside draft.tables draft.said ≡ Ok tt
   pub apart : no_same_name draft.said draft.said ≡ Ok tt
   pub is_made : IsMade draft job
 
@@ -96,5 +99,6 @@ read bytes job h =
     let a = bind_ok (lines_say 0 empty_draft (lines bytes)) _ job h in
     let e = bind_ok (no_rounded_contributors a.0.said) _ job a.2 in
     let b = bind_ok (no_stray (length a.0.tables) a.0.said) _ job e.2 in
-    let d = bind_ok (no_same_name a.0.said a.0.said) _ job b.2 in
-    record { draft = a.0; says = a.1; fit = e.1; placed = b.1; apart = d.1; is_made = made a.0 job d.2 }
+    let f = bind_ok (no_outside a.0.tables a.0.said) _ job b.2 in
+    let d = bind_ok (no_same_name a.0.said a.0.said) _ job f.2 in
+    record { draft = a.0; says = a.1; fit = e.1; placed = b.1; spanned = f.1; apart = d.1; is_made = made a.0 job d.2 }

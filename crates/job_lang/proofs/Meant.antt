@@ -108,12 +108,13 @@ lines_add before draft next (text ∷ texts) h =
 
 -- a command that stands once at most
 abbrev is_single : Keyword → Bool
-is_single word = not (same_keyword word keyword.SpecifyTable || same_keyword word keyword.Apriori || same_keyword word keyword.WriteTable)
+is_single word = not (same_keyword word keyword.SpecifyTable || same_keyword word keyword.Apriori || same_keyword word keyword.WriteTable || same_keyword word keyword.Depth)
 
 again_by : (one : Instruction) (before : List Statement) → is_single (command_of one) ≡ true → is_again one before ≡ false → list_any (λ s. is_by (command_of one) s.said) before ≡ false
 again_by (said.Table variables response) before single h = absurd cc
 again_by (said.Prior file number separator) before single h = absurd cc
 again_by (said.Output number file) before single h = absurd cc
+again_by (said.Depth number variable depth) before single h = absurd cc
 again_by one before single h = h
 
 none_by : (word : Keyword) (all : List Statement) → list_any (λ s. is_by word s.said) all ≡ false → by_command word all ≡ []
@@ -349,6 +350,7 @@ made_meant bytes draft job tables others single is =
       steps = steps_once usual_steps all single;
       nodes = nodes_once usual_nodes all single;
       priors = refl;
+      depths = refl;
       outputs = λ place within.
           let same : 0 + place ≡ place = omega arith in
           ap (λ (n : ℕ). file_line (output_said n all)) (sym same) ∙ outputs_at (length draft.tables) 0 all is.outputs (ap (λ (said : List Statement). outputs_from (length draft.tables) 0 said) (sym others) ∙ is.are_outputs) place within;

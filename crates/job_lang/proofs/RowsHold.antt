@@ -10,31 +10,52 @@ use Rattle.job_lang.specs.Keywords.{keyword_of, word_in}
 use Rattle.job_lang.specs.RuleTexts.{rules_in}
 use Rattle.job_lang.specs.RuleClauses.{one_number, frequency_clause, clause_in, clauses_in}
 use Rattle.job_lang.specs.TableTexts.{names_up_to, quoted_part, table_argument}
-use Rattle.job_lang.specs.Arguments.{file_at, only_file, output_argument, argument_of}
+use Rattle.job_lang.specs.Arguments.{file_at, only_file, output_argument, depth_argument, argument_of}
 use Rattle.job_lang.specs.MethodTexts.{modular_method, rounding_method, method_argument}
 use Rattle.job_lang.specs.Statements.{with_table, with_statement, with_said, command_line, text_says, lines_say}
 use Rattle.job_lang.specs.MissingCommands.{outputs_from}
 use Rattle.job_lang.specs.FilesApart.{no_stray, no_same_name}
+use Rattle.job_lang.specs.SpannedDepths.{no_outside}
 use Rattle.job_lang.specs.RoundedContributors.{no_rounded_contributors}
 use Rattle.job_lang.specs.Jobs.{job_made, closed_job, job_of}
 use Rattle.job_lang.specs.Binding.{bound_of}
-use Rattle.job_lang.specs.Rows.{EightLines, FullText, FullLines, NameBeforeMissing, RoundedContributorsFirst, BindsInAnyOrder, CodeListMet}
+use Rattle.job_lang.specs.Rows.{EightLines, FullText, FullLines, NameBeforeMissing, RoundedContributorsFirst, OutsideBeforeNames, NumbersBeforeOutside, DepthTwice, DepthFromOneToNine, BindsInAnyOrder, BindsDepths, CodeListMet}
 
 pub eight_lines : EightLines
-unfolding behind_mark quoted_at number_at digits_at end_of_tokens closing_token keyword_of word_in one_number frequency_clause clause_in clauses_in rules_in names_up_to quoted_part table_argument file_at only_file output_argument modular_method method_argument argument_of with_table with_statement with_said command_line text_says lines_say no_rounded_contributors no_stray no_same_name outputs_from job_made closed_job job_of
+unfolding behind_mark quoted_at number_at digits_at end_of_tokens closing_token keyword_of word_in one_number frequency_clause clause_in clauses_in rules_in names_up_to quoted_part table_argument file_at only_file output_argument modular_method method_argument argument_of with_table with_statement with_said command_line text_says lines_say no_rounded_contributors no_stray no_outside no_same_name outputs_from job_made closed_job job_of
 eight_lines = refl
 
 pub name_before_missing : NameBeforeMissing
-unfolding behind_mark quoted_at number_at digits_at end_of_tokens closing_token keyword_of word_in one_number frequency_clause clause_in clauses_in rules_in names_up_to quoted_part table_argument file_at only_file output_argument modular_method method_argument argument_of with_table with_statement with_said command_line text_says lines_say no_rounded_contributors no_stray no_same_name outputs_from job_made closed_job job_of
+unfolding behind_mark quoted_at number_at digits_at end_of_tokens closing_token keyword_of word_in one_number frequency_clause clause_in clauses_in rules_in names_up_to quoted_part table_argument file_at only_file output_argument modular_method method_argument argument_of with_table with_statement with_said command_line text_says lines_say no_rounded_contributors no_stray no_outside no_same_name outputs_from job_made closed_job job_of
 name_before_missing = refl
 
 pub rounded_contributors : RoundedContributorsFirst
 unfolding behind_mark quoted_at number_at digits_at end_of_tokens closing_token keyword_of word_in one_number file_at only_file output_argument rounding_method method_argument argument_of with_table with_statement with_said command_line text_says lines_say no_rounded_contributors closed_job job_of
 rounded_contributors = refl
 
+pub outside_before_names : OutsideBeforeNames
+unfolding behind_mark quoted_at number_at digits_at end_of_tokens closing_token keyword_of word_in one_number frequency_clause clause_in clauses_in rules_in names_up_to quoted_part table_argument file_at only_file output_argument depth_argument modular_method method_argument argument_of with_table with_statement with_said command_line text_says lines_say no_rounded_contributors no_stray no_outside no_same_name outputs_from job_made closed_job job_of
+outside_before_names = refl
+
+pub numbers_before_outside : NumbersBeforeOutside
+unfolding behind_mark quoted_at number_at digits_at end_of_tokens closing_token keyword_of word_in one_number frequency_clause clause_in clauses_in rules_in names_up_to quoted_part table_argument file_at only_file output_argument depth_argument modular_method method_argument argument_of with_table with_statement with_said command_line text_says lines_say no_rounded_contributors no_stray no_outside no_same_name outputs_from job_made closed_job job_of
+numbers_before_outside = refl
+
+pub depth_twice : DepthTwice
+unfolding behind_mark quoted_at number_at digits_at end_of_tokens closing_token keyword_of word_in one_number frequency_clause clause_in clauses_in rules_in names_up_to quoted_part table_argument file_at only_file output_argument depth_argument modular_method method_argument argument_of with_table with_statement with_said command_line text_says lines_say no_rounded_contributors no_stray no_outside no_same_name outputs_from job_made closed_job job_of
+depth_twice = refl
+
+pub depth_range : DepthFromOneToNine
+unfolding behind_mark quoted_at number_at digits_at end_of_tokens closing_token keyword_of word_in one_number frequency_clause clause_in clauses_in rules_in names_up_to quoted_part table_argument file_at only_file output_argument depth_argument modular_method method_argument argument_of with_table with_statement with_said command_line text_says lines_say no_rounded_contributors no_stray no_outside no_same_name outputs_from job_made closed_job job_of
+depth_range = (refl, refl)
+
 pub bindable : BindsInAnyOrder
 unfolding bound_of
 bindable = refl
+
+pub binds_depths : BindsDepths
+unfolding bound_of
+binds_depths = refl
 
 pub code_list_met : CodeListMet
 unfolding bound_of

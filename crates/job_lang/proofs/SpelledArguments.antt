@@ -13,17 +13,18 @@ use Rattle.std.proofs.lemmas.Map.Made.{distinct_count-from_IsDistinct}
 use Rattle.cost_rule.specs.declared.kind.CostKind.{CostKind}
 use Rattle.cost_rule.specs.declared.kind.CostKind.TheVariants as kind
 use Rattle.sdc_base.specs.Blanks.{trim}
+use Rattle.sdc_base.specs.CutTrees.{whole_depth}
 use Rattle.sdc_base.specs.Tokens.{is_quote, is_name_byte, is_file_name, in_quotes}
 use Rattle.sdc_base.specs.declared.method.Method.{Method}
 use Rattle.sdc_base.specs.declared.method.Method.TheVariants.{Gh, Modular, Rnd}
 use Rattle.job_lang.specs.declared.statement.Instruction.TheVariants as said
 use Rattle.job_lang.specs.LineTokens.{begins_with, is_break, is_next, behind_mark, quoted_at, number_at, digits_at, end_of_tokens, closing_token}
 use Rattle.job_lang.specs.TableTexts.{most_variables, names_up_to, is_twice, quoted_part, behind_again, are_free_parts, table_argument}
-use Rattle.job_lang.specs.Arguments.{file_at, only_file, may_separate, prior_argument, output_argument, cost_of, cost_argument, most_work, work_argument}
+use Rattle.job_lang.specs.Arguments.{file_at, only_file, may_separate, prior_argument, output_argument, depth_argument, cost_of, cost_argument, most_work, work_argument}
 use Rattle.job_lang.specs.MethodTexts.{passes_method, modular_method, rounding_method, method_argument}
 use Rattle.job_lang.specs.JobLimits.{IsMethod, IsWork}
 use Rattle.job_lang.specs.Spelling.{quoted_each, number_in_parentheses, table_number, cost_text, method_text}
-use Rattle.job_lang.proofs.Spelled.{not_zero, IsEnded, ended_behind, ended_with, trim_dark, trim_space, quoted_clean, quoted_read, mark_read, run_read, last_number_read}
+use Rattle.job_lang.proofs.Spelled.{not_zero, IsEnded, ended_behind, ended_with, trim_dark, trim_space, quoted_clean, quoted_read, mark_read, run_read, number_read, last_number_read}
 use Rattle.job_lang.proofs.SpelledRules.{closed_read, enclosed_read, run_space, behind_space}
 
 -- ---- behind a space
@@ -100,7 +101,7 @@ table_number_read place stop rest h here ends =
     let digit = digit_facts place h in
     subst (λ (number : List ℕ). digits_at (number ++ stop ∷ rest) ≡ Ok (number, stop ∷ rest)) (sym (number_is place h)) (digit_read (48 + (place + 1)) stop rest digit.0 digit.1 digit.2 here ends)
 
--- ---- a priori files and outputs
+-- ---- a priori files, outputs and depths
 
 plain_separator : (b : ℕ) → may_separate b ≡ true → (is_quote b || false) ≡ false
 plain_separator b h = grind arith
@@ -134,6 +135,23 @@ output_read place file few named =
       table_number_read place 44 (in_quotes file ++ 41 ∷ []) few refl last,
       mark_read 44 (in_quotes file ++ 41 ∷ []) refl last refl,
       file_read file (41 ∷ []) named (ended_behind (34 ∷ []) (41 ∷ []) (ended_with 41 refl refl)),
+      closed_read,
+    ) refl
+
+pub depth_read : (place : ℕ) (variable : List ℕ) (depth : ℕ) → place < 8 → list_any is_quote variable ≡ false → 1 ≤ depth → depth ≤ whole_depth
+    → depth_argument (32 ∷ 40 ∷ table_number place ++ (44 ∷ in_quotes variable ++ (44 ∷ decimal depth ++ 41 ∷ []))) ≡ Ok (said.Depth (table_number place) variable depth)
+unfolding depth_argument
+depth_read place variable depth few plain low high =
+    let last : IsEnded (44 ∷ decimal depth ++ 41 ∷ []) = ended_behind (44 ∷ decimal depth) (41 ∷ []) (ended_with 41 refl refl) in
+    let behind : IsEnded (44 ∷ in_quotes variable ++ (44 ∷ decimal depth ++ 41 ∷ [])) = ended_behind (44 ∷ in_quotes variable) (44 ∷ decimal depth ++ 41 ∷ []) last in
+    rw (
+      mark_space 40 (40 ∷ table_number place ++ (44 ∷ in_quotes variable ++ (44 ∷ decimal depth ++ 41 ∷ []))),
+      mark_read 40 (table_number place ++ (44 ∷ in_quotes variable ++ (44 ∷ decimal depth ++ 41 ∷ []))) refl (ended_behind (40 ∷ table_number place) (44 ∷ in_quotes variable ++ (44 ∷ decimal depth ++ 41 ∷ [])) behind) refl,
+      table_number_read place 44 (in_quotes variable ++ (44 ∷ decimal depth ++ 41 ∷ [])) few refl behind,
+      mark_read 44 (in_quotes variable ++ (44 ∷ decimal depth ++ 41 ∷ [])) refl behind refl,
+      quoted_read variable (44 ∷ decimal depth ++ 41 ∷ []) plain (ended_behind (34 ∷ []) (44 ∷ decimal depth ++ 41 ∷ []) last),
+      mark_read 44 (decimal depth ++ 41 ∷ []) refl last refl,
+      number_read 1 whole_depth depth 41 [] low high (omega arith) refl (ended_with 41 refl refl),
       closed_read,
     ) refl
 

@@ -1,5 +1,6 @@
 -- What the lines of a canonical text say.
-use Rattle.std.proofs.Common.{◌≡◌, ℕ, suc, ◌+◌, ◌<◌, ◌≤◌, ◌==◌, Bool, false, List, [], ◌∷◌, ◌++◌, length, map, Option, None, Some, Result, Ok, refl, ap, sym, ◌∙◌, arith, append_assoc}
+use Rattle.std.proofs.Common.{◌≡◌, ℕ, suc, ◌+◌, ◌<◌, ◌≤◌, ◌==◌, Bool, true, false, List, [], ◌∷◌, ◌++◌, length, map, Option, None, Some, Result, Ok, refl, ap, sym, ◌∙◌, arith, append_assoc}
+use Rattle.std.specs.Prelude.{◌&&◌}
 use Rattle.std.specs.List.{AllByRecursion, IsDistinct, list_any}
 use Rattle.std.specs.Str.{bytes_eq}
 use Rattle.std.proofs.lemmas.List.{append-nil}
@@ -8,6 +9,7 @@ use Rattle.std.proofs.lemmas.Map.Keys.{IsDistinct-head, IsDistinct-tail}
 use Rattle.sdc_base.specs.Steps.{◌>>=◌}
 use Rattle.sdc_base.proofs.StepLemmas.{bind_same}
 use Rattle.job_lang.specs.declared.faults.JobWhy.{JobWhy}
+use Rattle.job_lang.specs.declared.job.DepthLine.{DepthLine}
 use Rattle.job_lang.specs.declared.job.OutputLine.{OutputLine}
 use Rattle.job_lang.specs.declared.job.PriorLine.{PriorLine}
 use Rattle.job_lang.specs.declared.job.TableLine.{TableLine}
@@ -20,10 +22,10 @@ use Rattle.job_lang.specs.declared.statement.Instruction.TheVariants as said
 use Rattle.job_lang.specs.declared.statement.Statement.{Statement}
 use Rattle.job_lang.specs.Faults.{at_line}
 use Rattle.job_lang.specs.Keywords.{same_keyword}
-use Rattle.job_lang.specs.Statements.{is_by, is_prior_of, is_output_of, is_again, is_past_room, is_other_response, with_table, with_statement, with_said, text_says, lines_say, empty_draft}
+use Rattle.job_lang.specs.Statements.{is_by, is_prior_of, is_output_of, is_depth_of, is_again, is_past_room, is_other_response, with_table, with_statement, with_said, text_says, lines_say, empty_draft}
 use Rattle.job_lang.specs.Spelling.{table_number, said_line}
-use Rattle.job_lang.specs.JobText.{table_said, prior_said, outputs_said, contributors_said, job_says, tables_from}
-use Rattle.job_lang.specs.WritableJobs.{IsSpellable}
+use Rattle.job_lang.specs.JobText.{table_said, prior_said, outputs_said, contributors_said, depth_said, job_says, tables_from}
+use Rattle.job_lang.specs.WritableJobs.{IsSpellable, is_same_depth}
 use Rattle.job_lang.proofs.SpelledArguments.{number_is}
 use Rattle.job_lang.proofs.SpelledLines.{line_read, line_trimmed}
 use Rattle.job_lang.proofs.TableRoom.{Fit}
@@ -155,6 +157,49 @@ outputs_say before place tables all (output ∷ outputs) rest few none =
     ∙ ap (λ (n : ℕ). says n (drafted tables ((all ++ s ∷ []) ++ outputs_stated (before + 1 + 1) (place + 1) outputs)) rest) far
     ∙ ap (λ (ss : List Statement). says (before + suc (length outputs)) (drafted tables ss) rest) (append_assoc all (s ∷ []) (outputs_stated (before + 1 + 1) (place + 1) outputs))
 
+-- ---- depths
+
+-- their statements in one line after the other
+abbrev pub depths_stated : ℕ → List DepthLine → List Statement
+depths_stated line [] = []
+depths_stated line (depth ∷ depths) = record { line = line; said = depth_said depth } ∷ depths_stated (line + 1) depths
+
+-- it is of no variable and table that a depth before is of
+abbrev IsNewDepth : List Statement → DepthLine → Type 0
+IsNewDepth before depth = (depth.table < 8) × (list_any (λ s. is_depth_of (table_number depth.table) depth.variable s.said) before ≡ false)
+
+never_both : (b : Bool) → (b && false) ≡ false
+never_both true = refl
+never_both false = refl
+
+depths_apart : (a b : DepthLine) → a.table < 8 → b.table < 8 → is_same_depth a b ≡ false → is_depth_of (table_number b.table) b.variable (depth_said a) ≡ false
+depths_apart a b h g apart = elim (a.table == b.table) as (λ t. (a.table == b.table) ≡ t → (t && bytes_eq a.variable b.variable) ≡ false → is_depth_of (table_number b.table) b.variable (depth_said a) ≡ false) [
+  | true ↦ λ is other. rw other (never_both (bytes_eq (table_number a.table) (table_number b.table)))
+  | false ↦ λ is other. rw (numbers_apart a.table b.table h g is) refl
+] refl apart
+
+depths_still_new : (before : List Statement) (line : ℕ) (depth : DepthLine) (depths : List DepthLine) → depth.table < 8 → AllByRecursion (λ other. is_same_depth depth other ≡ false) depths → AllByRecursion (IsNewDepth before) depths
+    → AllByRecursion (IsNewDepth (before ++ record { line = line; said = depth_said depth } ∷ [])) depths
+depths_still_new before line depth [] few apart all = tt
+depths_still_new before line depth (next ∷ depths) few apart all = (
+  (all.0.0, any_last (λ s. is_depth_of (table_number next.table) next.variable s.said) before (record { line = line; said = depth_said depth }) all.0.1 (depths_apart depth next few all.0.0 apart.0)),
+  depths_still_new before line depth depths few apart.1 all.1,
+)
+
+depth_taken : (line : ℕ) (tables : List TableLine) (before : List Statement) (depth : DepthLine) → list_any (λ s. is_depth_of (table_number depth.table) depth.variable s.said) before ≡ false
+    → with_said line (drafted tables before) (depth_said depth) ≡ Ok (drafted tables (before ++ record { line = line; said = depth_said depth } ∷ []))
+unfolding with_said
+depth_taken line tables before depth new = stated line (drafted tables before) (depth_said depth) new
+
+depths_say : (before : ℕ) (tables : List TableLine) (all : List Statement) (depths : List DepthLine) → AllByRecursion (IsNewDepth all) depths → IsDistinct is_same_depth depths
+    → says before (drafted tables all) (map depth_said depths) ≡ Ok (drafted tables (all ++ depths_stated (before + 1) depths))
+depths_say before tables all [] new once = ap (λ (ss : List Statement). Ok (drafted tables ss)) (sym (append-nil all))
+depths_say before tables all (depth ∷ depths) new once =
+    let s : Statement = record { line = before + 1; said = depth_said depth } in
+    step before (before + 1) (drafted tables all) (drafted tables (all ++ s ∷ [])) (depth_said depth) (map depth_said depths) refl (depth_taken (before + 1) tables all depth new.0.1)
+    ∙ depths_say (before + 1) tables (all ++ s ∷ []) depths (depths_still_new all (before + 1) depth depths new.0.0 (IsDistinct-head is_same_depth depth depths once) new.1) (IsDistinct-tail is_same_depth depth depths once)
+    ∙ ap (λ (ss : List Statement). Ok (drafted tables ss)) (append_assoc all (s ∷ []) (depths_stated (before + 1 + 1) depths))
+
 -- ---- commands that stand once
 
 -- nothing is said by this command
@@ -175,6 +220,14 @@ unsaid_both word xs ys h g = rw (list_any-append (λ s. is_by word s.said) xs ys
 priors_no_output : (line : ℕ) (number : List ℕ) (priors : List PriorLine) → list_any (λ s. is_output_of number s.said) (priors_stated line priors) ≡ false
 priors_no_output line number [] = refl
 priors_no_output line number (prior ∷ priors) = priors_no_output (line + 1) number priors
+
+priors_no_depth : (line : ℕ) (number variable : List ℕ) (priors : List PriorLine) → list_any (λ s. is_depth_of number variable s.said) (priors_stated line priors) ≡ false
+priors_no_depth line number variable [] = refl
+priors_no_depth line number variable (prior ∷ priors) = priors_no_depth (line + 1) number variable priors
+
+outputs_no_depth : (line place : ℕ) (number variable : List ℕ) (outputs : List OutputLine) → list_any (λ s. is_depth_of number variable s.said) (outputs_stated line place outputs) ≡ false
+outputs_no_depth line place number variable [] = refl
+outputs_no_depth line place number variable (output ∷ outputs) = outputs_no_depth (line + 1) (place + 1) number variable outputs
 
 -- ---- the whole text
 
@@ -207,9 +260,15 @@ abbrev pub contributors_in : ℕ → Option OutputLine → List Statement
 contributors_in line None = []
 contributors_in line (Some output) = record { line = line; said = said.Contributors output.file } ∷ []
 
--- the certificate and the contributors' file
+-- the line of the first depth
+abbrev pub depths_line : Job → ℕ
+depths_line job = 10 + length job.tables + length job.priors + length job.outputs + length (contributors_said job.contributors)
+
+-- the certificate, the contributors' file and the depths
 abbrev pub last_of : Job → List Statement
-last_of job = record { line = outputs_line job + length job.outputs; said = said.Certificate job.certificate } ∷ contributors_in (contributors_line job) job.contributors
+last_of job =
+    record { line = outputs_line job + length job.outputs; said = said.Certificate job.certificate }
+    ∷ (contributors_in (contributors_line job) job.contributors ++ depths_stated (depths_line job) job.depths)
 
 -- all statements of a job's canonical text
 abbrev pub statements_of : Job → List Statement
@@ -255,12 +314,15 @@ contributors_as : (line : ℕ) (draft : Draft) (file : List ℕ) → with_said l
 unfolding with_said
 contributors_as line draft file = refl
 
-contributors_say : (before line : ℕ) (tables : List TableLine) (all : List Statement) (contributors : Option OutputLine) → before + 1 ≡ line → IsUnsaid keyword.Contributors all
-    → says before (drafted tables all) (contributors_said contributors) ≡ Ok (drafted tables (all ++ contributors_in line contributors))
-contributors_say before line tables all None is none = ap (λ (ss : List Statement). Ok (drafted tables ss)) (sym (append-nil all))
-contributors_say before line tables all (Some o) is none =
+contributors_say : (before line : ℕ) (tables : List TableLine) (all : List Statement) (contributors : Option OutputLine) (rest : List Instruction) → before + 1 ≡ line → IsUnsaid keyword.Contributors all
+    → says before (drafted tables all) (contributors_said contributors ++ rest) ≡ says (before + length (contributors_said contributors)) (drafted tables (all ++ contributors_in line contributors)) rest
+contributors_say before line tables all None rest is none =
+    let same : before ≡ before + 0 = omega arith in
+    ap (λ (n : ℕ). says n (drafted tables all) rest) same ∙ ap (λ (ss : List Statement). says (before + 0) (drafted tables ss) rest) (sym (append-nil all))
+contributors_say before line tables all (Some o) rest is none =
     let s : Statement = record { line = line; said = said.Contributors o.file } in
-    step before line (drafted tables all) (drafted tables (all ++ s ∷ [])) (said.Contributors o.file) [] is (single_taken line tables all (said.Contributors o.file) (contributors_as line (drafted tables all) o.file) none)
+    step before line (drafted tables all) (drafted tables (all ++ s ∷ [])) (said.Contributors o.file) rest is (single_taken line tables all (said.Contributors o.file) (contributors_as line (drafted tables all) o.file) none)
+    ∙ ap (λ (n : ℕ). says n (drafted tables (all ++ s ∷ [])) rest) (sym is)
 
 -- four statements that stand once
 middle_say : (before line : ℕ) (job : Job) (tables : List TableLine) (all : List Statement) (rest : List Instruction) → before + 1 ≡ line
@@ -282,14 +344,42 @@ middle_say before line job tables all rest is cost steps nodes method =
     (single_taken (line + 1 + 1 + 1) tables (all ++ a ∷ b ∷ d ∷ []) (said.Suppress job.method) (method_as (line + 1 + 1 + 1) (drafted tables (all ++ a ∷ b ∷ d ∷ [])) job) (unsaid_both keyword.Suppress all (a ∷ b ∷ d ∷ []) method refl))
     ∙ ap (λ (ss : List Statement). says (line + 1 + 1 + 1) (drafted tables ss) rest) (append_assoc all (a ∷ b ∷ d ∷ []) (e ∷ []))
 
+contributors_no_depth : (line : ℕ) (number variable : List ℕ) (contributors : Option OutputLine) → list_any (λ s. is_depth_of number variable s.said) (contributors_in line contributors) ≡ false
+contributors_no_depth line number variable None = refl
+contributors_no_depth line number variable (Some o) = refl
+
+-- all that stands before the depths
+abbrev before_depths : Job → List Statement
+before_depths job =
+    ((((front_of job ++ priors_stated (5 + length job.tables) job.priors) ++ middle_of (cost_line job) job) ++ outputs_stated (outputs_line job) 0 job.outputs)
+    ++ record { line = outputs_line job + length job.outputs; said = said.Certificate job.certificate } ∷ [])
+    ++ contributors_in (contributors_line job) job.contributors
+
+-- no depth does
+no_depth : (job : Job) (number variable : List ℕ) → list_any (λ s. is_depth_of number variable s.said) (before_depths job) ≡ false
+no_depth job number variable =
+    let test : Statement → Bool = λ s. is_depth_of number variable s.said in
+    let priors = priors_stated (5 + length job.tables) job.priors in
+    let before = front_of job ++ priors in
+    let whole = before ++ middle_of (cost_line job) job in
+    let done = outputs_stated (outputs_line job) 0 job.outputs in
+    let z : Statement = record { line = outputs_line job + length job.outputs; said = said.Certificate job.certificate } in
+    let extra = contributors_in (contributors_line job) job.contributors in
+    any_neither test ((whole ++ done) ++ z ∷ []) extra
+    (any_neither test (whole ++ done) (z ∷ []) (any_neither test whole done (any_neither test before (middle_of (cost_line job) job) (priors_no_depth (5 + length job.tables) number variable job.priors) refl) (outputs_no_depth (outputs_line job) 0 number variable job.outputs)) refl)
+    (contributors_no_depth (contributors_line job) number variable job.contributors)
+  where
+    any_neither : (test : Statement → Bool) (xs ys : List Statement) → list_any test xs ≡ false → list_any test ys ≡ false → list_any test (xs ++ ys) ≡ false
+    any_neither test xs ys h g = rw (list_any-append test xs ys, h, g) refl
+
 front_unsaid : (word : Keyword) (job : Job) (line : ℕ) → same_keyword keyword.OpenMicrodata word ≡ false → same_keyword keyword.OpenMetadata word ≡ false → same_keyword keyword.SafetyRule word ≡ false → same_keyword keyword.ReadMicrodata word ≡ false → same_keyword keyword.Apriori word ≡ false
     → IsUnsaid word (front_of job ++ priors_stated line job.priors)
 front_unsaid word job line h0 h1 h3 h4 h5 = rw (h0, h1, h3, h4, priors_unsaid word line job.priors h5) refl
 
 -- what a job's canonical text says, where its parts fit
 pub text_says_all : (job : Job) → Fit [] job.tables → AllByRecursion (λ p. p.table < 8) job.priors → IsDistinct ◌==◌ (map (λ p. p.table) job.priors) → length job.outputs ≤ 8
-    → says 0 empty_draft (job_says job) ≡ Ok (drafted (tables_from 3 job.tables) (statements_of job))
-text_says_all job fits few once outputs =
+    → AllByRecursion (λ d. d.table < 8) job.depths → IsDistinct is_same_depth job.depths → says 0 empty_draft (job_says job) ≡ Ok (drafted (tables_from 3 job.tables) (statements_of job))
+text_says_all job fits few once outputs shallow single =
     let n = length job.tables in
     let m = length job.priors in
     let t = tables_from 3 job.tables in
@@ -298,7 +388,8 @@ text_says_all job fits few once outputs =
     let middle = middle_of (cost_line job) job in
     let before = front ++ priors in
     let whole = before ++ middle in
-    let last : List Instruction = said.Certificate job.certificate ∷ contributors_said job.contributors in
+    let deep : List Instruction = map depth_said job.depths in
+    let last : List Instruction = said.Certificate job.certificate ∷ (contributors_said job.contributors ++ deep) in
     let r3 : List Instruction = outputs_said 0 job.outputs ++ last in
     let r2 : List Instruction = said.Cost job.cost ∷ said.Steps job.steps ∷ said.Nodes job.nodes ∷ said.Suppress job.method ∷ r3 in
     let r1 : List Instruction = said.Safety job.rules ∷ said.Read ∷ (map prior_said job.priors ++ r2) in
@@ -309,11 +400,15 @@ text_says_all job fits few once outputs =
     let line_c : cost_line job + 1 + 1 + 1 + 1 ≡ outputs_line job = omega arith in
     let line_d : cost_line job + 1 + 1 + 1 + length job.outputs + 1 ≡ outputs_line job + length job.outputs = omega arith in
     let line_e : outputs_line job + length job.outputs + 1 ≡ contributors_line job = omega arith in
+    let line_f : outputs_line job + length job.outputs + length (contributors_said job.contributors) + 1 ≡ depths_line job = omega arith in
     let extra = contributors_in (contributors_line job) job.contributors in
+    let depths = depths_stated (depths_line job) job.depths in
     let none : HasNone 0 whole = λ q above small.
     let number = table_number q in
     rw (list_any-append (λ s. is_output_of number s.said) before middle, list_any-append (λ s. is_output_of number s.said) front priors, priors_no_output (5 + n) number job.priors) refl in
-    first_two job (map table_said job.tables ++ r1)
+    ap (λ (rest : List Instruction). says 0 empty_draft (said.Microdata job.micro ∷ said.Metadata job.meta ∷ (map table_said job.tables ++ (said.Safety job.rules ∷ said.Read ∷ (map prior_said job.priors ++ (said.Cost job.cost ∷ said.Steps job.steps ∷ said.Nodes job.nodes ∷ said.Suppress job.method ∷ rest))))))
+    (append_assoc (outputs_said 0 job.outputs) (said.Certificate job.certificate ∷ contributors_said job.contributors) deep)
+    ∙ first_two job (map table_said job.tables ++ r1)
     ∙ tables_say 2 [] job.tables (record { line = 1; said = said.Microdata job.micro } ∷ record { line = 2; said = said.Metadata job.meta } ∷ []) r1 fits
     ∙ next_two job t (2 + n) (3 + n) (4 + n) (map prior_said job.priors ++ r2) (omega arith) (omega arith)
     ∙ priors_say (4 + n) t front job.priors r2 (new job.priors few) once
@@ -323,16 +418,22 @@ text_says_all job fits few once outputs =
     (front_unsaid keyword.Nodes job (5 + n) refl refl refl refl refl) (front_unsaid keyword.Suppress job (5 + n) refl refl refl refl refl)
     ∙ outputs_say (cost_line job + 1 + 1 + 1) 0 t whole job.outputs last (omega (arith, outputs)) none
     ∙ ap (λ (line : ℕ). says (cost_line job + 1 + 1 + 1 + length job.outputs) (drafted t (whole ++ outputs_stated line 0 job.outputs)) last) line_c
-    ∙ step (cost_line job + 1 + 1 + 1 + length job.outputs) (outputs_line job + length job.outputs) (drafted t (whole ++ done)) (drafted t ((whole ++ done) ++ z ∷ [])) (said.Certificate job.certificate) (contributors_said job.contributors) line_d
+    ∙ step (cost_line job + 1 + 1 + 1 + length job.outputs) (outputs_line job + length job.outputs) (drafted t (whole ++ done)) (drafted t ((whole ++ done) ++ z ∷ [])) (said.Certificate job.certificate) (contributors_said job.contributors ++ deep) line_d
     (single_taken (outputs_line job + length job.outputs) t (whole ++ done) (said.Certificate job.certificate) (certificate_as (outputs_line job + length job.outputs) (drafted t (whole ++ done)) job)
     (unsaid_both keyword.Certificate whole done (unsaid_both keyword.Certificate before middle (front_unsaid keyword.Certificate job (5 + n) refl refl refl refl refl) refl) (outputs_unsaid keyword.Certificate (outputs_line job) 0 job.outputs refl)))
-    ∙ contributors_say (outputs_line job + length job.outputs) (contributors_line job) t ((whole ++ done) ++ z ∷ []) job.contributors line_e
+    ∙ contributors_say (outputs_line job + length job.outputs) (contributors_line job) t ((whole ++ done) ++ z ∷ []) job.contributors deep line_e
     (unsaid_both keyword.Contributors (whole ++ done) (z ∷ []) (unsaid_both keyword.Contributors whole done (unsaid_both keyword.Contributors before middle (front_unsaid keyword.Contributors job (5 + n) refl refl refl refl refl) refl) (outputs_unsaid keyword.Contributors (outputs_line job) 0 job.outputs refl)) refl)
-    ∙ ap (λ (ss : List Statement). Ok (drafted t ss)) (append_assoc (whole ++ done) (z ∷ []) extra ∙ regrouped front priors middle done (z ∷ extra))
+    ∙ depths_say (outputs_line job + length job.outputs + length (contributors_said job.contributors)) t (((whole ++ done) ++ z ∷ []) ++ extra) job.depths (unmet job.depths shallow) single
+    ∙ ap (λ (line : ℕ). Ok (drafted t ((((whole ++ done) ++ z ∷ []) ++ extra) ++ depths_stated line job.depths))) line_f
+    ∙ ap (λ (ss : List Statement). Ok (drafted t ss)) (append_assoc ((whole ++ done) ++ z ∷ []) extra depths ∙ append_assoc (whole ++ done) (z ∷ []) (extra ++ depths) ∙ regrouped front priors middle done (z ∷ (extra ++ depths)))
   where
     new : (priors : List PriorLine) → AllByRecursion (λ p. p.table < 8) priors → AreNew (front_of job) priors
     new [] all = tt
     new (p ∷ priors) all = ((all.0, refl), new priors all.1)
+
+    unmet : (depths : List DepthLine) → AllByRecursion (λ d. d.table < 8) depths → AllByRecursion (IsNewDepth (before_depths job)) depths
+    unmet [] all = tt
+    unmet (d ∷ depths) all = ((all.0, no_depth job (table_number d.table) d.variable), unmet depths all.1)
 
     regrouped : (a b d e f : List Statement) → (((a ++ b) ++ d) ++ e) ++ f ≡ a ++ (b ++ (d ++ (e ++ f)))
     regrouped a b d e f = append_assoc ((a ++ b) ++ d) e f ∙ append_assoc (a ++ b) d (e ++ f) ∙ append_assoc a b (d ++ (e ++ f))

@@ -1,6 +1,6 @@
 -- A job of its canonical text.
-use Rattle.std.proofs.Common.{◌≡◌, ◌≢◌, ℕ, suc, ◌+◌, ◌<◌, ◌≤◌, ◌==◌, ◌||◌, Bool, true, false, cond, List, [], ◌∷◌, ◌++◌, length, map, Option, None, Some, Ok, Err, refl, ap, sym, ◌∙◌, subst, arith, append_assoc, nat_lt, nat_le}
-use Rattle.std.specs.Prelude.{◌&&◌, find}
+use Rattle.std.proofs.Common.{◌≡◌, ◌≢◌, ℕ, zero, suc, ◌+◌, ◌<◌, ◌≤◌, ◌==◌, ◌||◌, Bool, true, false, cond, List, [], ◌∷◌, ◌++◌, length, map, Option, None, Some, Ok, Err, refl, ap, sym, ◌∙◌, subst, arith, append_assoc, nat_lt, nat_le}
+use Rattle.std.specs.Prelude.{◌&&◌, find, slice_get}
 use Rattle.std.specs.Option.{is_some}
 use Rattle.std.specs.List.{AllByRecursion, IsDistinct, list_any, count_by}
 use Rattle.std.specs.Str.{bytes_eq}
@@ -15,7 +15,8 @@ use Rattle.cost_rule.specs.declared.kind.CostKind.{CostKind}
 use Rattle.sdc_base.specs.Tokens.{number_in}
 use Rattle.sdc_base.specs.declared.method.Method.{Method}
 use Rattle.sdc_base.specs.declared.method.Method.TheVariants.{Gh, Modular, Rnd}
-use Rattle.job_lang.specs.declared.faults.JobWhy.TheVariants.{NoSuchTable, SameName}
+use Rattle.job_lang.specs.declared.faults.JobWhy.TheVariants.{NoSuchTable, NotInTable, SameName}
+use Rattle.job_lang.specs.declared.job.DepthLine.{DepthLine}
 use Rattle.job_lang.specs.declared.job.Job.{Job}
 use Rattle.job_lang.specs.declared.job.OutputLine.{OutputLine}
 use Rattle.job_lang.specs.declared.job.PriorLine.{PriorLine}
@@ -28,18 +29,19 @@ use Rattle.job_lang.specs.declared.statement.Instruction.TheVariants as said
 use Rattle.job_lang.specs.declared.statement.Statement.{Statement}
 use Rattle.job_lang.specs.Keywords.{same_keyword}
 use Rattle.job_lang.specs.Statements.{is_by}
-use Rattle.job_lang.specs.ClosingLooks.{statement_by, is_output_at, output_said, file_line, rules_line, method_of, cost_of, work_of, usual_steps, usual_nodes, table_place, priors_in}
+use Rattle.job_lang.specs.ClosingLooks.{statement_by, is_output_at, output_said, file_line, rules_line, method_of, cost_of, work_of, usual_steps, usual_nodes, table_place, priors_in, depths_in}
 use Rattle.job_lang.specs.MissingCommands.{outputs_from}
 use Rattle.job_lang.specs.FilesApart.{is_no_table, is_astray, no_stray, puts, is_read_file, is_shared, puts_shared_file, no_same_name}
+use Rattle.job_lang.specs.SpannedDepths.{spans_table, is_outside, no_outside}
 use Rattle.job_lang.specs.RoundedContributors.{is_rounding, unless_line, no_rounded_contributors}
-use Rattle.job_lang.specs.JobLimits.{CanHaveContributors}
+use Rattle.job_lang.specs.JobLimits.{CanHaveContributors, IsDepth}
 use Rattle.job_lang.specs.Jobs.{job_made, closed_job}
 use Rattle.job_lang.specs.FileLaws.{contributors_files, puts_of, reads_of}
 use Rattle.job_lang.specs.Spelling.{table_number}
-use Rattle.job_lang.specs.JobText.{prior_said, tables_from, priors_from, outputs_at, output_at, in_text}
+use Rattle.job_lang.specs.JobText.{prior_said, depth_said, tables_from, priors_from, outputs_at, depths_from, output_at, in_text}
 use Rattle.job_lang.proofs.Made.{job_with}
 use Rattle.job_lang.proofs.Spelled.{number_spelled}
-use Rattle.job_lang.proofs.SpelledDraft.{any_last, priors_stated, outputs_stated, front_of, middle_of, cost_line, outputs_line, contributors_line, contributors_in, last_of, statements_of, drafted}
+use Rattle.job_lang.proofs.SpelledDraft.{any_last, priors_stated, outputs_stated, depths_stated, front_of, middle_of, cost_line, outputs_line, contributors_line, contributors_in, depths_line, last_of, statements_of, drafted}
 
 -- ---- look-ups
 
@@ -86,11 +88,21 @@ certificate_found job =
     ap file_line (find_past (λ s. is_by keyword.Certificate s.said) (priors_stated (5 + length job.tables) job.priors) (behind_priors job) (priors_by keyword.Certificate (5 + length job.tables) job.priors refl))
     ∙ ap file_line (find_past (λ s. is_by keyword.Certificate s.said) (outputs_stated (outputs_line job) 0 job.outputs) (last_of job) (outputs_by keyword.Certificate (outputs_line job) 0 job.outputs refl))
 
+no_contributors : (line : ℕ) (depths : List DepthLine) → find (λ s. is_by keyword.Contributors s.said) (depths_stated line depths) ≡ None
+no_contributors line [] = refl
+no_contributors line (depth ∷ depths) = no_contributors (line + 1) depths
+
+contributors_first : (line next : ℕ) (contributors : Option OutputLine) (depths : List DepthLine)
+    → find (λ s. is_by keyword.Contributors s.said) (contributors_in line contributors ++ depths_stated next depths) ≡ find (λ s. is_by keyword.Contributors s.said) (contributors_in line contributors)
+contributors_first line next None depths = no_contributors next depths
+contributors_first line next (Some o) depths = refl
+
 -- the statement of the contributors' file, where there is one
 contributors_stated : (job : Job) → statement_by keyword.Contributors (statements_of job) ≡ find (λ s. is_by keyword.Contributors s.said) (contributors_in (contributors_line job) job.contributors)
 contributors_stated job =
     find_past (λ s. is_by keyword.Contributors s.said) (priors_stated (5 + length job.tables) job.priors) (behind_priors job) (priors_by keyword.Contributors (5 + length job.tables) job.priors refl)
     ∙ find_past (λ s. is_by keyword.Contributors s.said) (outputs_stated (outputs_line job) 0 job.outputs) (last_of job) (outputs_by keyword.Contributors (outputs_line job) 0 job.outputs refl)
+    ∙ contributors_first (contributors_line job) (depths_line job) job.contributors job.depths
 
 contributors_again : (line : ℕ) (contributors : Option OutputLine) → file_line (find (λ s. is_by keyword.Contributors s.said) (contributors_in line contributors)) ≡ output_at line contributors
 contributors_again line None = refl
@@ -127,15 +139,46 @@ no_priors : (line place : ℕ) (outputs : List OutputLine) (rest : List Statemen
 no_priors line place [] rest = refl
 no_priors line place (output ∷ outputs) rest = no_priors (line + 1) (place + 1) outputs rest
 
-none_last : (line : ℕ) (contributors : Option OutputLine) → priors_in (contributors_in line contributors) ≡ []
-none_last line None = refl
-none_last line (Some o) = refl
+no_priors_last : (line : ℕ) (depths : List DepthLine) → priors_in (depths_stated line depths) ≡ []
+no_priors_last line [] = refl
+no_priors_last line (depth ∷ depths) = no_priors_last (line + 1) depths
+
+none_last : (line next : ℕ) (contributors : Option OutputLine) (depths : List DepthLine) → priors_in (contributors_in line contributors ++ depths_stated next depths) ≡ []
+none_last line next None depths = no_priors_last next depths
+none_last line next (Some o) depths = no_priors_last next depths
 
 priors_found : (job : Job) → AllByRecursion (λ p. p.table < 8) job.priors → priors_in (statements_of job) ≡ priors_from (5 + length job.tables) job.priors
 priors_found job few =
     priors_both (5 + length job.tables) job.priors (behind_priors job) few
-    ∙ ap (λ (ps : List PriorLine). priors_from (5 + length job.tables) job.priors ++ ps) (no_priors (outputs_line job) 0 job.outputs (last_of job) ∙ none_last (contributors_line job) job.contributors)
+    ∙ ap (λ (ps : List PriorLine). priors_from (5 + length job.tables) job.priors ++ ps) (no_priors (outputs_line job) 0 job.outputs (last_of job) ∙ none_last (contributors_line job) (depths_line job) job.contributors job.depths)
     ∙ append-nil (priors_from (5 + length job.tables) job.priors)
+
+-- ---- depths
+
+no_depths_first : (line : ℕ) (priors : List PriorLine) (rest : List Statement) → depths_in (priors_stated line priors ++ rest) ≡ depths_in rest
+no_depths_first line [] rest = refl
+no_depths_first line (prior ∷ priors) rest = no_depths_first (line + 1) priors rest
+
+no_depths : (line place : ℕ) (outputs : List OutputLine) (rest : List Statement) → depths_in (outputs_stated line place outputs ++ rest) ≡ depths_in rest
+no_depths line place [] rest = refl
+no_depths line place (output ∷ outputs) rest = no_depths (line + 1) (place + 1) outputs rest
+
+no_depth_last : (line : ℕ) (contributors : Option OutputLine) (rest : List Statement) → depths_in (contributors_in line contributors ++ rest) ≡ depths_in rest
+no_depth_last line None rest = refl
+no_depth_last line (Some o) rest = refl
+
+depths_again : (line : ℕ) (depths : List DepthLine) → AllByRecursion (λ d. d.table < 8) depths → depths_in (depths_stated line depths) ≡ depths_from line depths
+depths_again line [] few = refl
+depths_again line (depth ∷ depths) few =
+    ap (λ (place : ℕ). record { line = line; table = place; variable = depth.variable; depth = depth.depth } ∷ depths_in (depths_stated (line + 1) depths)) (place_again depth.table few.0)
+    ∙ ap (λ (ds : List DepthLine). record { line = line; table = depth.table; variable = depth.variable; depth = depth.depth } ∷ ds) (depths_again (line + 1) depths few.1)
+
+depths_found : (job : Job) → AllByRecursion (λ d. d.table < 8) job.depths → depths_in (statements_of job) ≡ depths_from (depths_line job) job.depths
+depths_found job few =
+    no_depths_first (5 + length job.tables) job.priors (behind_priors job)
+    ∙ no_depths (outputs_line job) 0 job.outputs (last_of job)
+    ∙ no_depth_last (contributors_line job) job.contributors (depths_stated (depths_line job) job.depths)
+    ∙ depths_again (depths_line job) job.depths few
 
 -- ---- outputs
 
@@ -205,12 +248,61 @@ contributors_placed : (count line : ℕ) (contributors : Option OutputLine) → 
 contributors_placed count line None = refl
 contributors_placed count line (Some o) = refl
 
-all_placed : (count : ℕ) (job : Job) → count ≤ 8 → AllByRecursion (λ p. p.table < count) job.priors → length job.outputs ≤ count → no_stray count (statements_of job) ≡ Ok tt
-all_placed count job few priors outputs =
+depths_placed : (count line : ℕ) (depths : List DepthLine) → count ≤ 8 → AllByRecursion (λ d. d.table < count) depths → list_any (λ s. is_astray count s.said) (depths_stated line depths) ≡ false
+depths_placed count line [] few all = refl
+depths_placed count line (depth ∷ depths) few all = rw (is_table count depth.table all.0 few, depths_placed count (line + 1) depths few all.1) refl
+
+all_placed : (count : ℕ) (job : Job) → count ≤ 8 → AllByRecursion (λ p. p.table < count) job.priors → length job.outputs ≤ count → AllByRecursion (λ d. d.table < count) job.depths → no_stray count (statements_of job) ≡ Ok tt
+all_placed count job few priors outputs depths =
     placed count (statements_of job)
     (any_past (λ s. is_astray count s.said) (priors_stated (5 + length job.tables) job.priors) (behind_priors job) (priors_placed count (5 + length job.tables) job.priors few priors)
     ∙ any_past (λ s. is_astray count s.said) (outputs_stated (outputs_line job) 0 job.outputs) (last_of job) (outputs_placed count (outputs_line job) 0 job.outputs few (omega (arith, outputs)))
-    ∙ contributors_placed count (contributors_line job) job.contributors)
+    ∙ any_past (λ s. is_astray count s.said) (contributors_in (contributors_line job) job.contributors) (depths_stated (depths_line job) job.depths) (contributors_placed count (contributors_line job) job.contributors)
+    ∙ depths_placed count (depths_line job) job.depths few depths)
+
+-- ---- variables of depths
+
+spanned : (tables : List TableLine) (all : List Statement) → list_any (λ s. is_outside tables s.said) all ≡ false → no_outside tables all ≡ Ok tt
+unfolding no_outside
+spanned tables [] h = refl
+spanned tables (s ∷ rest) h = elim (is_outside tables s.said) as (λ t. (t || list_any (λ s. is_outside tables s.said) rest) ≡ false → cond t (Err (s.line, NotInTable)) (no_outside tables rest) ≡ Ok tt) [
+  | true ↦ λ g. absurd cc
+  | false ↦ λ g. spanned tables rest g
+] h
+
+priors_spanned : (tables : List TableLine) (line : ℕ) (priors : List PriorLine) → list_any (λ s. is_outside tables s.said) (priors_stated line priors) ≡ false
+priors_spanned tables line [] = refl
+priors_spanned tables line (prior ∷ priors) = priors_spanned tables (line + 1) priors
+
+outputs_spanned : (tables : List TableLine) (line place : ℕ) (outputs : List OutputLine) → list_any (λ s. is_outside tables s.said) (outputs_stated line place outputs) ≡ false
+outputs_spanned tables line place [] = refl
+outputs_spanned tables line place (output ∷ outputs) = outputs_spanned tables (line + 1) (place + 1) outputs
+
+contributors_spanned : (tables : List TableLine) (line : ℕ) (contributors : Option OutputLine) → list_any (λ s. is_outside tables s.said) (contributors_in line contributors) ≡ false
+contributors_spanned tables line None = refl
+contributors_spanned tables line (Some o) = refl
+
+-- the lines of tables don't say what spans them
+spans_from : (name : List ℕ) (line : ℕ) (tables : List TableLine) (place : ℕ) → spans_table name (slice_get (tables_from line tables) place) ≡ spans_table name (slice_get tables place)
+spans_from name line [] place = refl
+spans_from name line (table ∷ tables) zero = refl
+spans_from name line (table ∷ tables) (suc place) = spans_from name (line + 1) tables place
+
+depths_spanned : (tables : List TableLine) (first line : ℕ) (depths : List DepthLine) → AllByRecursion (λ d. d.table < 8) depths → AllByRecursion (IsDepth tables) depths
+    → list_any (λ s. is_outside (tables_from first tables) s.said) (depths_stated line depths) ≡ false
+depths_spanned tables first line [] few all = refl
+depths_spanned tables first line (depth ∷ depths) few all =
+    rw (place_again depth.table few.0, spans_from depth.variable first tables depth.table, all.0.spanned, depths_spanned tables first (line + 1) depths few.1 all.1) refl
+
+all_spanned : (job : Job) → AllByRecursion (λ d. d.table < 8) job.depths → AllByRecursion (IsDepth job.tables) job.depths → no_outside (tables_from 3 job.tables) (statements_of job) ≡ Ok tt
+all_spanned job few all =
+    let tables = tables_from 3 job.tables in
+    let test : Statement → Bool = λ s. is_outside tables s.said in
+    spanned tables (statements_of job)
+    (any_past test (priors_stated (5 + length job.tables) job.priors) (behind_priors job) (priors_spanned tables (5 + length job.tables) job.priors)
+    ∙ any_past test (outputs_stated (outputs_line job) 0 job.outputs) (last_of job) (outputs_spanned tables (outputs_line job) 0 job.outputs)
+    ∙ any_past test (contributors_in (contributors_line job) job.contributors) (depths_stated (depths_line job) job.depths) (contributors_spanned tables (contributors_line job) job.contributors)
+    ∙ depths_spanned job.tables 3 (depths_line job) job.depths few all)
 
 -- ---- names of files
 
@@ -274,6 +366,10 @@ contributors_put : (name : List ℕ) (line : ℕ) (contributors : Option OutputL
 contributors_put name line None = refl
 contributors_put name line (Some o) = refl
 
+depths_put_none : (name : List ℕ) (line : ℕ) (depths : List DepthLine) → count_by (λ s. puts name s.said) (depths_stated line depths) ≡ 0
+depths_put_none name line [] = refl
+depths_put_none name line (depth ∷ depths) = sum_by-cons (weight name) (record { line = line; said = depth_said depth }) (depths_stated (line + 1) depths) ∙ ap (λ (n : ℕ). 0 + n) (depths_put_none name (line + 1) depths)
+
 puts_counted : (name : List ℕ) (job : Job) → count_by (λ s. puts name s.said) (statements_of job) ≡ named name (puts_of job)
 puts_counted name job =
     let priors = priors_stated (5 + length job.tables) job.priors in
@@ -288,9 +384,12 @@ puts_counted name job =
     let extra = contributors_in (contributors_line job) job.contributors in
     let h = contributors_put name (contributors_line job) job.contributors in
     let z : Statement = record { line = outputs_line job + length job.outputs; said = said.Certificate job.certificate } in
-    let i = sum_by-cons (weight name) z extra in
+    let depths = depths_stated (depths_line job) job.depths in
+    let i = sum_by-cons (weight name) z (extra ++ depths) in
+    let j = sum_by-append (weight name) extra depths in
+    let k = depths_put_none name (depths_line job) job.depths in
     let middle : count_by (λ s. puts name s.said) (behind_priors job) ≡ count_by (λ s. puts name s.said) (outputs ++ last_of job) = refl in
-    omega (arith, a, b, d, e, f, g, h, i, middle)
+    omega (arith, a, b, d, e, f, g, h, i, j, k, middle)
 
 priors_unread : (name : List ℕ) (line : ℕ) (priors : List PriorLine) → AllByRecursion (λ read. name ≢ read) (map (λ p. p.file) priors) → list_any (λ s. is_read_file name s.said) (priors_stated line priors) ≡ false
 priors_unread name line [] all = refl
@@ -304,12 +403,17 @@ contributors_unread : (name : List ℕ) (line : ℕ) (contributors : Option Outp
 contributors_unread name line None = refl
 contributors_unread name line (Some o) = refl
 
+depths_unread : (name : List ℕ) (line : ℕ) (depths : List DepthLine) → list_any (λ s. is_read_file name s.said) (depths_stated line depths) ≡ false
+depths_unread name line [] = refl
+depths_unread name line (depth ∷ depths) = depths_unread name (line + 1) depths
+
 all_unread : (name : List ℕ) (job : Job) → AllByRecursion (λ read. name ≢ read) (reads_of job) → list_any (λ s. is_read_file name s.said) (statements_of job) ≡ false
 all_unread name job all =
     let rest : list_any (λ s. is_read_file name s.said) (priors_stated (5 + length job.tables) job.priors ++ behind_priors job) ≡ false =
     any_past (λ s. is_read_file name s.said) (priors_stated (5 + length job.tables) job.priors) (behind_priors job) (priors_unread name (5 + length job.tables) job.priors all.1.1)
     ∙ any_past (λ s. is_read_file name s.said) (outputs_stated (outputs_line job) 0 job.outputs) (last_of job) (outputs_unread name (outputs_line job) 0 job.outputs)
-    ∙ contributors_unread name (contributors_line job) job.contributors in
+    ∙ any_past (λ s. is_read_file name s.said) (contributors_in (contributors_line job) job.contributors) (depths_stated (depths_line job) job.depths) (contributors_unread name (contributors_line job) job.contributors)
+    ∙ depths_unread name (depths_line job) job.depths in
     rw (differs name job.micro all.0, differs name job.meta all.1.0) rest
 
 alone : (n : ℕ) (b : Bool) → n ≤ 1 → b ≡ false → (nat_lt 1 n || b) ≡ false
@@ -335,6 +439,10 @@ contributors_apart : (job : Job) (line : ℕ) (contributors : Option OutputLine)
 contributors_apart job line None distinct all = refl
 contributors_apart job line (Some o) distinct all = rw (unshared o.file job distinct all.0) refl
 
+depths_share_none : (all : List Statement) (line : ℕ) (depths : List DepthLine) → list_any (λ s. puts_shared_file all s.said) (depths_stated line depths) ≡ false
+depths_share_none all line [] = refl
+depths_share_none all line (depth ∷ depths) = depths_share_none all (line + 1) depths
+
 pub front_of_all : {A : Type 0} (P : A → Type 0) (xs ys : List A) → AllByRecursion P (xs ++ ys) → AllByRecursion P xs
 front_of_all P [] ys all = tt
 front_of_all P (x ∷ xs) ys all = (all.0, front_of_all P xs ys all.1)
@@ -349,7 +457,9 @@ all_apart job distinct all =
     let kept : List ℕ → Type 0 = λ put. AllByRecursion (λ read. put ≢ read) (reads_of job) in
     let names : List (List ℕ) = map (λ o. o.file) job.outputs in
     let extra = contributors_apart job (contributors_line job) job.contributors distinct (front_of_all kept (contributors_files job.contributors) names all.1) in
-    let last : list_any test (last_of job) ≡ false = rw (unshared job.certificate job distinct all.0) extra in
+    let behind : list_any test (contributors_in (contributors_line job) job.contributors ++ depths_stated (depths_line job) job.depths) ≡ false =
+    any_past test (contributors_in (contributors_line job) job.contributors) (depths_stated (depths_line job) job.depths) extra ∙ depths_share_none (statements_of job) (depths_line job) job.depths in
+    let last : list_any test (last_of job) ≡ false = rw (unshared job.certificate job distinct all.0) behind in
     apart (statements_of job) (statements_of job)
     (any_past test (priors_stated (5 + length job.tables) job.priors) (behind_priors job) (priors_share_none (statements_of job) (5 + length job.tables) job.priors)
     ∙ any_past test (outputs_stated (outputs_line job) 0 job.outputs) (last_of job) (outputs_apart job (outputs_line job) 0 job.outputs distinct (back_of_all kept (contributors_files job.contributors) names all.1))
@@ -371,9 +481,9 @@ tables_counted line (table ∷ tables) = ap suc (tables_counted (line + 1) table
 some_tables : (n : ℕ) → 0 < n → (n == 0) ≡ false
 some_tables n h = grind arith
 
-made_again : (job : Job) → 0 < length job.tables → length job.tables ≤ 8 → length job.outputs ≡ length job.tables → AllByRecursion (λ p. p.table < 8) job.priors
+made_again : (job : Job) → 0 < length job.tables → length job.tables ≤ 8 → length job.outputs ≡ length job.tables → AllByRecursion (λ p. p.table < 8) job.priors → AllByRecursion (λ d. d.table < 8) job.depths
     → job_made (drafted (tables_from 3 job.tables) (statements_of job)) ≡ Ok (in_text job)
-made_again job some few outputs priors =
+made_again job some few outputs priors depths =
     let draft = drafted (tables_from 3 job.tables) (statements_of job) in
     let counted = tables_counted 3 job.tables in
     let found : outputs_from (length (tables_from 3 job.tables)) 0 (statements_of job) ≡ Ok (outputs_at (outputs_line job) job.outputs) =
@@ -382,17 +492,22 @@ made_again job some few outputs priors =
     made_from draft (record { line = 1; file = job.micro }) (record { line = 2; file = job.meta }) (record { line = outputs_line job + length job.outputs; file = job.certificate })
     (record { line = 3 + length job.tables; rules = job.rules }) job.method (outputs_at (outputs_line job) job.outputs)
     refl refl (some_tables (length (tables_from 3 job.tables)) (omega (arith, some, counted))) refl (method_found job) found (certificate_found job)
-    ∙ ap (λ (ps : List PriorLine). Ok (record whole { contributors = file_line (statement_by keyword.Contributors (statements_of job)); priors = ps; cost = cost_of (statement_by keyword.Cost (statements_of job)); steps = work_of usual_steps (statement_by keyword.Steps (statements_of job)); nodes = work_of usual_nodes (statement_by keyword.Nodes (statements_of job)) })) (priors_found job priors)
-    ∙ ap (λ (cost : CostKind). Ok (record whole { contributors = file_line (statement_by keyword.Contributors (statements_of job)); cost = cost; steps = work_of usual_steps (statement_by keyword.Steps (statements_of job)); nodes = work_of usual_nodes (statement_by keyword.Nodes (statements_of job)) })) (cost_found job)
-    ∙ ap (λ (steps : ℕ). Ok (record whole { contributors = file_line (statement_by keyword.Contributors (statements_of job)); steps = steps; nodes = work_of usual_nodes (statement_by keyword.Nodes (statements_of job)) })) (steps_found job)
-    ∙ ap (λ (nodes : ℕ). Ok (record whole { contributors = file_line (statement_by keyword.Contributors (statements_of job)); nodes = nodes })) (nodes_found job)
-    ∙ ap (λ (contributors : Option OutputLine). Ok (record whole { contributors = contributors })) (contributors_found job)
+    ∙ ap (λ (ps : List PriorLine). Ok (record whole { contributors = file_line (statement_by keyword.Contributors (statements_of job)); priors = ps; cost = cost_of (statement_by keyword.Cost (statements_of job)); steps = work_of usual_steps (statement_by keyword.Steps (statements_of job)); nodes = work_of usual_nodes (statement_by keyword.Nodes (statements_of job)); depths = depths_in (statements_of job) })) (priors_found job priors)
+    ∙ ap (λ (cost : CostKind). Ok (record whole { contributors = file_line (statement_by keyword.Contributors (statements_of job)); cost = cost; steps = work_of usual_steps (statement_by keyword.Steps (statements_of job)); nodes = work_of usual_nodes (statement_by keyword.Nodes (statements_of job)); depths = depths_in (statements_of job) })) (cost_found job)
+    ∙ ap (λ (steps : ℕ). Ok (record whole { contributors = file_line (statement_by keyword.Contributors (statements_of job)); steps = steps; nodes = work_of usual_nodes (statement_by keyword.Nodes (statements_of job)); depths = depths_in (statements_of job) })) (steps_found job)
+    ∙ ap (λ (nodes : ℕ). Ok (record whole { contributors = file_line (statement_by keyword.Contributors (statements_of job)); nodes = nodes; depths = depths_in (statements_of job) })) (nodes_found job)
+    ∙ ap (λ (contributors : Option OutputLine). Ok (record whole { contributors = contributors; depths = depths_in (statements_of job) })) (contributors_found job)
+    ∙ ap (λ (depths : List DepthLine). Ok (record whole { depths = depths })) (depths_found job depths)
 
 pub closed_again : (job : Job) → 0 < length job.tables → length job.tables ≤ 8 → length job.outputs ≡ length job.tables → AllByRecursion (λ p. p.table < length job.tables) job.priors → AllByRecursion (λ p. p.table < 8) job.priors
-    → CanHaveContributors job.method job.contributors → IsDistinct bytes_eq (puts_of job) → AllByRecursion (λ put. AllByRecursion (λ read. put ≢ read) (reads_of job)) (puts_of job)
+    → AllByRecursion (IsDepth job.tables) job.depths → AllByRecursion (λ d. d.table < 8) job.depths → CanHaveContributors job.method job.contributors → IsDistinct bytes_eq (puts_of job) → AllByRecursion (λ put. AllByRecursion (λ read. put ≢ read) (reads_of job)) (puts_of job)
     → closed_job (drafted (tables_from 3 job.tables) (statements_of job)) ≡ Ok (in_text job)
 unfolding closed_job
-closed_again job some few outputs within priors can distinct all =
+closed_again job some few outputs within priors spanned depths can distinct all =
     let counted = tables_counted 3 job.tables in
-    let fine : no_stray (length (tables_from 3 job.tables)) (statements_of job) ≡ Ok tt = ap (λ (n : ℕ). no_stray n (statements_of job)) counted ∙ all_placed (length job.tables) job few within (omega (arith, outputs)) in
-    rw (all_fit job can, fine, all_apart job distinct all) (made_again job some few outputs priors)
+    let fine : no_stray (length (tables_from 3 job.tables)) (statements_of job) ≡ Ok tt = ap (λ (n : ℕ). no_stray n (statements_of job)) counted ∙ all_placed (length job.tables) job few within (omega (arith, outputs)) (at_tables job.tables job.depths spanned) in
+    rw (all_fit job can, fine, all_spanned job depths spanned, all_apart job distinct all) (made_again job some few outputs priors depths)
+  where
+    at_tables : (tables : List TableLine) (depths : List DepthLine) → AllByRecursion (IsDepth tables) depths → AllByRecursion (λ d. d.table < length tables) depths
+    at_tables tables [] all = tt
+    at_tables tables (d ∷ depths) all = (all.0.table, at_tables tables depths all.1)

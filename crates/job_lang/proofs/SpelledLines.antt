@@ -22,7 +22,7 @@ use Rattle.job_lang.specs.declared.rule_clauses.RuleClause.{RuleClause}
 use Rattle.job_lang.specs.declared.rule_clauses.RuleClause.TheVariants.{Named, Man, Weights}
 use Rattle.job_lang.specs.declared.statement.Draft.{Draft}
 use Rattle.job_lang.specs.declared.statement.Keyword.{Keyword}
-use Rattle.job_lang.specs.declared.statement.Keyword.TheVariants.{OpenMicrodata, OpenMetadata, SpecifyTable, SafetyRule, ReadMicrodata, Apriori, Cost, Steps, Nodes, Suppress, WriteTable, Certificate, Contributors}
+use Rattle.job_lang.specs.declared.statement.Keyword.TheVariants.{OpenMicrodata, OpenMetadata, SpecifyTable, SafetyRule, ReadMicrodata, Apriori, Cost, Steps, Nodes, Suppress, WriteTable, Certificate, Contributors, Depth}
 use Rattle.job_lang.specs.declared.statement.Instruction.{Instruction}
 use Rattle.job_lang.specs.declared.statement.Instruction.TheVariants as said
 use Rattle.job_lang.specs.Keywords.{keyword_of, word_in}
@@ -36,7 +36,7 @@ use Rattle.job_lang.specs.WritableJobs.{IsQuotable, IsSpellable, LinesAreRead}
 use Rattle.job_lang.proofs.ClausesHold.{IsClause}
 use Rattle.job_lang.proofs.Spelled.{IsEnded, ended_behind, ended_with, trim_dark, digit_of_value, decimal_ended}
 use Rattle.job_lang.proofs.SpelledRules.{rules_read, all_clauses}
-use Rattle.job_lang.proofs.SpelledArguments.{all_first, last_and, only_file_read, prior_read, output_read, table_read, cost_read, work_read, method_read}
+use Rattle.job_lang.proofs.SpelledArguments.{all_first, last_and, only_file_read, prior_read, output_read, depth_read, table_read, cost_read, work_read, method_read}
 
 -- ---- what a line says
 
@@ -65,6 +65,8 @@ argument_read (said.Output number file) h =
     subst (λ (number : List ℕ). argument_of WriteTable (argument_text (said.Output number file)) ≡ Ok (said.Output number file)) (sym h.2) (output_read h.0 file h.1 h.3)
 argument_read (said.Certificate name) h = rw (only_file_read name h) refl
 argument_read (said.Contributors name) h = rw (only_file_read name h) refl
+argument_read (said.Depth number variable depth) h =
+    subst (λ (number : List ℕ). argument_of Depth (argument_text (said.Depth number variable depth)) ≡ Ok (said.Depth number variable depth)) (sym h.2) (depth_read h.0 variable depth h.1 h.3.0 h.4 h.5)
 
 word_read : (word : Keyword) (text : List ℕ) (line : ℕ) (draft : Draft) → text_says line draft (60 ∷ word_of word ++ 62 ∷ text) ≡ (argument_of word text >>= λ one. with_said line draft one)
 unfolding text_says command_line word_in keyword_of
@@ -81,6 +83,7 @@ word_read Suppress text line draft = refl
 word_read WriteTable text line draft = refl
 word_read Certificate text line draft = refl
 word_read Contributors text line draft = refl
+word_read Depth text line draft = refl
 
 -- a line that was spelled says what it is the line of
 pub line_read : (one : Instruction) (line : ℕ) (draft : Draft) → IsSpellable one → text_says line draft (said_line one) ≡ with_said line draft one
@@ -101,6 +104,7 @@ word_says Suppress text = refl
 word_says WriteTable text = refl
 word_says Certificate text = refl
 word_says Contributors text = refl
+word_says Depth text = refl
 
 -- ---- ends of lines
 
@@ -155,6 +159,9 @@ argument_ended (said.Suppress method) h = ended_behind (62 ∷ 32 ∷ []) (metho
 argument_ended (said.Output number file) h = ended_behind (62 ∷ 32 ∷ 40 ∷ number) (44 ∷ in_quotes file ++ 41 ∷ []) (ended_behind (44 ∷ in_quotes file) (41 ∷ []) (ended_with 41 refl refl))
 argument_ended (said.Certificate name) h = named_end name
 argument_ended (said.Contributors name) h = named_end name
+argument_ended (said.Depth number variable depth) h =
+    ended_behind (62 ∷ 32 ∷ 40 ∷ number) (44 ∷ in_quotes variable ++ (44 ∷ decimal depth ++ 41 ∷ []))
+    (ended_behind (44 ∷ in_quotes variable) (44 ∷ decimal depth ++ 41 ∷ []) (ended_behind (44 ∷ decimal depth) (41 ∷ []) (ended_with 41 refl refl)))
 
 line_ended : (one : Instruction) → IsSpellable one → IsEnded (said_line one)
 line_ended one h = ended_behind (60 ∷ word_of (command_of one)) (62 ∷ argument_text one) (argument_ended one h)
@@ -260,6 +267,9 @@ argument_free (said.Output number file) h =
     past number (44 ∷ in_quotes file ++ 41 ∷ []) digits ∙ quoted_free file (41 ∷ []) (file_free file h.3)
 argument_free (said.Certificate name) h = alone_free name (file_free name h)
 argument_free (said.Contributors name) h = alone_free name (file_free name h)
+argument_free (said.Depth number variable depth) h =
+    let digits : HasNoFeed number = subst HasNoFeed (sym h.2) (number_free h.0 h.1) in
+    past number (44 ∷ in_quotes variable ++ (44 ∷ decimal depth ++ 41 ∷ [])) digits ∙ quoted_free variable (44 ∷ decimal depth ++ 41 ∷ []) h.3.1 ∙ past (decimal depth) (41 ∷ []) (decimal_free depth (omega (arith, h.5)))
 
 word_free : (word : Keyword) (text : List ℕ) → list_any is_line_feed (60 ∷ word_of word ++ 62 ∷ text) ≡ list_any is_line_feed text
 word_free OpenMicrodata text = refl
@@ -275,6 +285,7 @@ word_free Suppress text = refl
 word_free WriteTable text = refl
 word_free Certificate text = refl
 word_free Contributors text = refl
+word_free Depth text = refl
 
 pub line_line : (one : Instruction) → IsSpellable one → IsLine (said_line one)
 line_line one h = record {

@@ -17,6 +17,7 @@ use Rattle.sdc_base.specs.Tokens.{is_number}
 use Rattle.sdc_base.proofs.StepLemmas.{bind_ok}
 use Rattle.job_lang.specs.declared.faults.JobWhy.TheVariants.{UnknownCommand, Twice, TooMany, OtherResponse, Missing}
 use Rattle.job_lang.specs.declared.faults.Command.TheVariants as command
+use Rattle.job_lang.specs.declared.job.DepthLine.{DepthLine}
 use Rattle.job_lang.specs.declared.job.Job.{Job}
 use Rattle.job_lang.specs.declared.job.OutputLine.{OutputLine}
 use Rattle.job_lang.specs.declared.job.PriorLine.{PriorLine}
@@ -29,15 +30,15 @@ use Rattle.job_lang.specs.declared.statement.Statement.{Statement}
 use Rattle.job_lang.specs.Faults.{at_line}
 use Rattle.job_lang.specs.Keywords.{keyword_of, word_in}
 use Rattle.job_lang.specs.Arguments.{argument_of}
-use Rattle.job_lang.specs.Statements.{is_by, is_prior_of, is_again, is_past_room, is_other_response, with_table, with_statement, with_said, is_passed_over, command_line, text_says, lines_say, empty_draft}
-use Rattle.job_lang.specs.ClosingLooks.{file_said, file_line, rules_from, rules_line, output_said, table_place, prior_in, priors_in}
+use Rattle.job_lang.specs.Statements.{is_by, is_prior_of, is_depth_of, is_again, is_past_room, is_other_response, with_table, with_statement, with_said, is_passed_over, command_line, text_says, lines_say, empty_draft}
+use Rattle.job_lang.specs.ClosingLooks.{file_said, file_line, rules_from, rules_line, output_said, table_place, prior_in, priors_in, depth_in, depths_in}
 use Rattle.job_lang.specs.MissingCommands.{output_of_table, outputs_from}
 use Rattle.job_lang.specs.FilesApart.{is_no_table, is_astray}
 use Rattle.job_lang.specs.JobLimits.{IsJob}
 use Rattle.job_lang.specs.Jobs.{job_of}
 use Rattle.job_lang.specs.FileLaws.{contributors_files, puts_of, reads_of}
 use Rattle.job_lang.specs.Spelling.{table_number}
-use Rattle.job_lang.specs.WritableJobs.{HasEachOnce, HasQuotable, HasSeparator, IsWritable, JobsAreWritable}
+use Rattle.job_lang.specs.WritableJobs.{HasEachOnce, HasQuotable, HasSeparator, is_same_depth, IsWritable, JobsAreWritable}
 use Rattle.job_lang.proofs.FirstFault.{no_strays}
 use Rattle.job_lang.proofs.JobHolds.{find_known, was_there, wider, job_known}
 use Rattle.job_lang.proofs.Known.{then_known, known, either_known, not_refused, was_some, all_and_last}
@@ -70,12 +71,13 @@ lines_free (b ∷ bytes) =
 
 -- ---- what lines say, one after the other
 
--- the later of two a priori files isn't of the earlier one's table
+-- the later of two a priori files isn't of the earlier one's table, and the later of two depths not of the same table and variable
 abbrev IsOther : Instruction → Instruction → Type 0
 IsOther earlier (said.Prior file number separator) = is_prior_of number earlier ≡ false
+IsOther earlier (said.Depth number variable depth) = is_depth_of number variable earlier ≡ false
 IsOther earlier one = Unit {0}
 
--- no two a priori files are of one table
+-- no two a priori files are of one table, and no two depths of one variable in one table
 abbrev AreOther : List Statement → Type 0
 AreOther [] = Unit {0}
 AreOther (s ∷ rest) = AllByRecursion (λ t. IsOther s.said t.said) rest × AreOther rest
@@ -94,6 +96,7 @@ no_claim (s ∷ rest) = (tt, no_claim rest)
 
 not_again : (one : Instruction) (all : List Statement) → is_again one all ≡ false → AllByRecursion (λ s. IsOther s.said one) all
 not_again (said.Prior file number separator) all h = none_each (λ s. is_prior_of number s.said) all h
+not_again (said.Depth number variable depth) all h = none_each (λ s. is_depth_of number variable s.said) all h
 not_again one all h = no_claim all
 
 record AreWritten (draft : Draft) : Type 0 where
@@ -270,6 +273,46 @@ priors_once count (s ∷ rest) few other written placed = one s.line s.said othe
         IsDistinct-cons ◌==◌ (table_place number) (map (λ p. p.table) (priors_in rest)) (apart_from count number file separator rest few (own_number count number few w.1 g) h written.1 placed.1) all
     one line said_ h w g all = all
 
+-- ---- depths
+
+depths_differ : (a b x y : List ℕ) (p q : ℕ) → a ≡ table_number p → b ≡ table_number q → (bytes_eq a b && bytes_eq x y) ≡ false → ((p == q) && bytes_eq x y) ≡ false
+depths_differ a b x y p q is also apart =
+    elim (bytes_eq a b) as (λ t. bytes_eq a b ≡ t → (t && bytes_eq x y) ≡ false → ((p == q) && bytes_eq x y) ≡ false) [
+      | true ↦ λ same g. never (p == q) (bytes_eq x y) g
+      | false ↦ λ other g. rw (numbers_differ a b p q is also other) refl
+    ] refl apart
+  where
+    never : (s t : Bool) → (true && t) ≡ false → (s && t) ≡ false
+    never true t h = h
+    never false t h = refl
+
+-- the depth that a statement gives
+abbrev depth_by : ℕ → List ℕ → List ℕ → ℕ → DepthLine
+depth_by line number variable depth = record { line = line; table = table_place number; variable = variable; depth = depth }
+
+depth_apart : (count line : ℕ) (number variable : List ℕ) (depth : ℕ) (rest : List Statement) → count ≤ 8 → number ≡ table_number (table_place number) → AllByRecursion (λ t. IsOther (said.Depth number variable depth) t.said) rest
+    → AllByRecursion (λ s. IsWritten s.said) rest → AllByRecursion (λ s. is_astray count s.said ≡ false) rest → AllByRecursion (λ other. is_same_depth (depth_by line number variable depth) other ≡ false) (depths_in rest)
+depth_apart count line number variable depth [] few is other written placed = tt
+depth_apart count line number variable depth (t ∷ rest) few is other written placed =
+    one t.line t.said other.0 written.0 placed.0 (depth_apart count line number variable depth rest few is other.1 written.1 placed.1)
+  where
+    one : (at : ℕ) (said_ : Instruction) → IsOther (said.Depth number variable depth) said_ → IsWritten said_ → is_astray count said_ ≡ false
+        → AllByRecursion (λ other. is_same_depth (depth_by line number variable depth) other ≡ false) (depths_in rest)
+        → AllByRecursion (λ other. is_same_depth (depth_by line number variable depth) other ≡ false) (depth_in at said_ ++ depths_in rest)
+    one at (said.Depth number' variable' depth') h w g all =
+        (depths_differ number number' variable variable' (table_place number) (table_place number') is (own_number count number' few w.0 g) h, all)
+    one at said_ h w g all = all
+
+depths_once : (count : ℕ) (all : List Statement) → count ≤ 8 → AreOther all → AllByRecursion (λ s. IsWritten s.said) all → AllByRecursion (λ s. is_astray count s.said ≡ false) all → IsDistinct is_same_depth (depths_in all)
+unfolding IsDistinct
+depths_once count [] few other written placed = tt
+depths_once count (s ∷ rest) few other written placed = one s.line s.said other.0 written.0 placed.0 (depths_once count rest few other.1 written.1 placed.1)
+  where
+    one : (line : ℕ) (said_ : Instruction) → AllByRecursion (λ t. IsOther said_ t.said) rest → IsWritten said_ → is_astray count said_ ≡ false → IsDistinct is_same_depth (depths_in rest) → IsDistinct is_same_depth (depth_in line said_ ++ depths_in rest)
+    one line (said.Depth number variable depth) h w g all =
+        IsDistinct-cons is_same_depth (depth_by line number variable depth) (depths_in rest) (depth_apart count line number variable depth rest few (own_number count number few w.0 g) h written.1 placed.1) all
+    one line said_ h w g all = all
+
 -- ---- the job
 
 pub writable : JobsAreWritable
@@ -295,6 +338,7 @@ writable bytes job h =
       names = written.tables;
       separators = priors_separators draft.said written.said;
       priors = priors_once (length draft.tables) draft.said few written.other written.said placed;
+      depths = depths_once (length draft.tables) draft.said few written.other written.said placed;
       files = all_both IsNamed (reads_of j) (puts_of j) (micro, (meta, priors)) (certificate, all_both IsNamed (contributors_files j.contributors) (map (λ o. o.file) made.outputs) extra outputs);
       puts = subst (λ (job : Job). IsDistinct bytes_eq (puts_of job)) back (differ bytes job h);
       apart = subst (λ (job : Job). AllByRecursion (λ put. AllByRecursion (λ read. put ≢ read) (reads_of job)) (puts_of job)) back (not_read bytes job h);

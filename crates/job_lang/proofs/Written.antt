@@ -6,6 +6,7 @@ use Rattle.std.specs.Result.{IfOk}
 use Rattle.std.specs.List.{AllByRecursion, list_any, count_by, position_or_len, before_first}
 use Rattle.std.specs.Str.{all_ascii_digits}
 use Rattle.std.proofs.lemmas.List.Sums.{sum_by-cons}
+use Rattle.sdc_base.specs.CutTrees.{whole_depth}
 use Rattle.sdc_base.specs.Blanks.{trim, trim_front}
 use Rattle.sdc_base.specs.Lines.{is_line_feed, HasNoFeed}
 use Rattle.sdc_base.specs.Steps.{◌>>=◌, or_fault, refuse}
@@ -14,16 +15,16 @@ use Rattle.job_lang.specs.declared.faults.JobWhy.TheVariants.{BadLine, BadValue}
 use Rattle.job_lang.specs.declared.rule_clauses.RuleClause.{RuleClause}
 use Rattle.job_lang.specs.declared.rule_clauses.RuleClause.TheVariants.{Named, Man, Weights}
 use Rattle.job_lang.specs.declared.statement.Keyword.{Keyword}
-use Rattle.job_lang.specs.declared.statement.Keyword.TheVariants.{OpenMicrodata, OpenMetadata, SpecifyTable, SafetyRule, ReadMicrodata, Apriori, Cost, Steps, Nodes, Suppress, WriteTable, Certificate, Contributors}
+use Rattle.job_lang.specs.declared.statement.Keyword.TheVariants.{OpenMicrodata, OpenMetadata, SpecifyTable, SafetyRule, ReadMicrodata, Apriori, Cost, Steps, Nodes, Suppress, WriteTable, Certificate, Contributors, Depth}
 use Rattle.job_lang.specs.declared.statement.Instruction.{Instruction}
 use Rattle.job_lang.specs.declared.statement.Instruction.TheVariants as said
 use Rattle.job_lang.specs.Keywords.{word_in}
-use Rattle.job_lang.specs.LineTokens.{is_next, behind_mark, quoted_at, run_of, behind_run, digits_at, without_zeros, end_of_tokens, closing_token}
+use Rattle.job_lang.specs.LineTokens.{is_next, behind_mark, quoted_at, run_of, behind_run, number_at, digits_at, without_zeros, end_of_tokens, closing_token}
 use Rattle.job_lang.specs.Pieces.{pieces}
 use Rattle.job_lang.specs.RuleTexts.{named_in, is_frequency, is_zero, is_man, is_weights, are_rules, rules_in}
 use Rattle.job_lang.specs.RuleClauses.{clauses_in}
 use Rattle.job_lang.specs.TableTexts.{most_variables, names_up_to, is_twice, quoted_part, behind_again, are_free_parts, table_argument}
-use Rattle.job_lang.specs.Arguments.{file_at, only_file, may_separate, separator_of, prior_argument, output_argument, cost_argument, work_argument, argument_of}
+use Rattle.job_lang.specs.Arguments.{file_at, only_file, may_separate, separator_of, prior_argument, output_argument, depth_argument, cost_argument, work_argument, argument_of}
 use Rattle.job_lang.specs.MethodTexts.{method_argument}
 use Rattle.job_lang.specs.WritableJobs.{is_on_frequencies, is_on_zeros, HasEachOnce, IsQuotable}
 use Rattle.job_lang.proofs.Known.{then_known, known, either_known, not_refused, was_some}
@@ -140,6 +141,7 @@ IsWritten (said.Prior file number separator) = IsNamed file × IsDigits number �
 IsWritten (said.Output number file) = IsNamed file × IsDigits number
 IsWritten (said.Certificate name) = IsNamed name
 IsWritten (said.Contributors name) = IsNamed name
+IsWritten (said.Depth number variable depth) = IsDigits number × IsQuotable variable
 IsWritten one = Unit {0}
 
 -- a file's name, and the text behind it without LF
@@ -205,6 +207,20 @@ output_written text h =
     let d = known HasNoFeed (behind_mark 44 number.1) comma (mark_written 44 number.1 b.1) g2 in
     then_known IsWritten (file_at comma) _ (λ file g3.
     then_known IsWritten (closing_token file.1) _ (λ end g4. ((known IsFile (file_at comma) file (file_written comma d) g3).0, b.0))))))
+
+depth_written : (text : List ℕ) → HasNoFeed text → IfOk (depth_argument text) IsWritten
+unfolding depth_argument
+depth_written text h =
+    then_known IsWritten (behind_mark 40 text) _ (λ open_ g.
+    let a = known HasNoFeed (behind_mark 40 text) open_ (mark_written 40 text h) g in
+    then_known IsWritten (digits_at open_) _ (λ number g1.
+    let b = known IsNumber (digits_at open_) number (digits_written open_ a) g1 in
+    then_known IsWritten (behind_mark 44 number.1) _ (λ comma g2.
+    let d = known HasNoFeed (behind_mark 44 number.1) comma (mark_written 44 number.1 b.1) g2 in
+    then_known IsWritten (quoted_at comma) _ (λ variable g3.
+    then_known IsWritten (behind_mark 44 variable.1) _ (λ again g4.
+    then_known IsWritten (number_at 1 whole_depth again) _ (λ depth g5.
+    then_known IsWritten (closing_token depth.1) _ (λ end g6. (b.0, (known IsWord (quoted_at comma) variable (quoted_written comma d) g3).0))))))))
 
 -- names that can be written, and the text behind them without LF
 abbrev AreWords : (List (List ℕ) × List ℕ) → Type 0
@@ -283,6 +299,7 @@ argument_written Suppress text h = then_known IsWritten (method_argument text) _
 argument_written WriteTable text h = output_written text h
 argument_written Certificate text h = then_known IsWritten (only_file text) _ (λ name g. known IsNamed (only_file text) name (only_written text h) g)
 argument_written Contributors text h = then_known IsWritten (only_file text) _ (λ name g. known IsNamed (only_file text) name (only_written text h) g)
+argument_written Depth text h = depth_written text h
 
 -- a command's argument has no LF where the line has none
 abbrev IsArgument : (List ℕ × List ℕ) → Type 0

@@ -1,17 +1,19 @@
--- The argument of each command: what it says, or BadValue (tau-ARGUS user manual; ranges, COST, STEPS and NODES own).
+-- The argument of each command: what it says, or BadValue (tau-ARGUS user manual; ranges, COST, STEPS, NODES and
+-- DEPTH own).
 use Rattle.std.specs.Prelude.{ℕ, ◌^◌, Bool, not, ◌==◌, ◌||◌, codes, if◌then◌else◌, List, [], ◌∷◌, Option, None, Some, Result, Ok}
 use Rattle.std.specs.Char.{is_ascii_digit}
 use Rattle.std.specs.Str.{str_eq_ignore_ascii_case}
 use Rattle.cost_rule.specs.declared.kind.CostKind.{CostKind}
 use Rattle.cost_rule.specs.declared.kind.CostKind.TheVariants as kind
 use Rattle.sdc_base.specs.Blanks.{is_blank}
+use Rattle.sdc_base.specs.CutTrees.{whole_depth}
 use Rattle.sdc_base.specs.Numbers.{is_point}
 use Rattle.sdc_base.specs.Steps.{◌>>=◌, or_fault, refuse}
 use Rattle.sdc_base.specs.Tokens.{is_quote, is_file_name}
 use Rattle.job_lang.specs.declared.faults.JobWhy.{JobWhy}
 use Rattle.job_lang.specs.declared.faults.JobWhy.TheVariants.{BadValue}
 use Rattle.job_lang.specs.declared.statement.Keyword.{Keyword}
-use Rattle.job_lang.specs.declared.statement.Keyword.TheVariants.{OpenMicrodata, OpenMetadata, SpecifyTable, SafetyRule, ReadMicrodata, Apriori, Cost, Steps, Nodes, Suppress, WriteTable, Certificate, Contributors}
+use Rattle.job_lang.specs.declared.statement.Keyword.TheVariants.{OpenMicrodata, OpenMetadata, SpecifyTable, SafetyRule, ReadMicrodata, Apriori, Cost, Steps, Nodes, Suppress, WriteTable, Certificate, Contributors, Depth}
 use Rattle.job_lang.specs.declared.statement.Instruction.{Instruction}
 use Rattle.job_lang.specs.declared.statement.Instruction.TheVariants as said
 use Rattle.job_lang.specs.LineTokens.{behind_mark, quoted_at, run_of, behind_run, number_at, digits_at, end_of_tokens, closing_token}
@@ -65,6 +67,18 @@ output_argument text = do
   end ← closing_token file.1
   Ok (said.Output number.0 file.0)
 
+-- (t,"variable",n): the number of a table, a variable, and the depth to which the table takes its tree, 1 to 9
+unfoldable pub depth_argument : List ℕ → Result Instruction JobWhy
+depth_argument text = do
+  open_ ← behind_mark 40 text
+  number ← digits_at open_
+  comma ← behind_mark 44 number.1
+  variable ← quoted_at comma
+  again ← behind_mark 44 variable.1
+  depth ← number_at 1 whole_depth again
+  end ← closing_token depth.1
+  Ok (said.Depth number.0 variable.0 depth.0)
+
 -- the kind of cost of this word, in letters of any case
 unfoldable pub cost_of : List ℕ → Option CostKind
 cost_of word =
@@ -106,3 +120,4 @@ argument_of Suppress text = method_argument text >>= λ method. Ok (said.Suppres
 argument_of WriteTable text = output_argument text
 argument_of Certificate text = only_file text >>= λ name. Ok (said.Certificate name)
 argument_of Contributors text = only_file text >>= λ name. Ok (said.Contributors name)
+argument_of Depth text = depth_argument text

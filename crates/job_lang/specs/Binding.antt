@@ -1,11 +1,15 @@
 -- The variables of a job looked up in metadata: the places, or the first fault with its line (own).
-use Rattle.std.specs.Prelude.{ℕ, ◌+◌, ◌^◌, Bool, ◌==◌, if◌then◌else◌, List, [], ◌∷◌, map, Option, None, Some, unwrap_or, find, Result, Ok, Err}
+use Rattle.std.specs.Prelude.{ℕ, ◌+◌, ◌^◌, Bool, ◌==◌, ◌&&◌, if◌then◌else◌, List, [], ◌∷◌, map, Option, None, Some, option_map, unwrap_or, find, Result, Ok, Err}
+use Rattle.std.specs.Str.{bytes_eq}
+use Rattle.sdc_base.specs.CutTrees.{whole_depth}
 use Rattle.sdc_base.specs.Places.{first_place}
 use Rattle.sdc_base.specs.Steps.{◌>>=◌}
+use Rattle.sdc_base.specs.declared.dimension.Dimension.{Dimension}
 use Rattle.sdc_base.specs.declared.rule.Rules.{Rules}
 use Rattle.rda_meta.specs.declared.meta.Meta.{Meta}
 use Rattle.rda_meta.specs.declared.meta.Variable.{Variable}
 use Rattle.job_lang.specs.declared.faults.JobWhy.{JobWhy}
+use Rattle.job_lang.specs.declared.job.DepthLine.{DepthLine}
 use Rattle.job_lang.specs.declared.job.Job.{Job}
 use Rattle.job_lang.specs.declared.job.TableLine.{TableLine}
 use Rattle.job_lang.specs.declared.bound.Bound.{Bound}
@@ -29,9 +33,25 @@ variable_place variables name = unwrap_or (first_place (λ v. is_named name v) v
 abbrev pub spanning_place : List ℕ → List Variable → List ℕ → ℕ
 spanning_place spanning variables name = unwrap_or (first_place (λ k. k == variable_place variables name) spanning) 0
 
--- the variables of a table, in its order, as places among those that span tables
-abbrev pub table_places : List ℕ → List Variable → TableLine → List ℕ
-table_places spanning variables table = map (λ name. spanning_place spanning variables name) table.variables
+-- the line is of the variable of this name in the table at this place
+abbrev pub is_depth_for : ℕ → List ℕ → DepthLine → Bool
+is_depth_for place name line = (line.table == place) && bytes_eq line.variable name
+
+-- the depth to which the table at this place takes the tree of the variable of this name: that of its line, and where
+-- none says one the whole tree's
+abbrev pub depth_of : List DepthLine → ℕ → List ℕ → ℕ
+depth_of depths place name = unwrap_or (option_map (λ line. line.depth) (find (is_depth_for place name) depths)) whole_depth
+
+-- the dimensions of the table at this place, in the order of its variables, which are places among those that span tables
+abbrev pub table_dimensions : List ℕ → List Variable → List DepthLine → ℕ → TableLine → List Dimension
+table_dimensions spanning variables depths place table =
+    map (λ name. record { variable = spanning_place spanning variables name; depth = depth_of depths place name }) table.variables
+
+-- the dimensions of the tables from this place on
+abbrev pub dimensions_from : List ℕ → List Variable → List DepthLine → ℕ → List TableLine → List (List Dimension)
+dimensions_from spanning variables depths place [] = []
+dimensions_from spanning variables depths place (table ∷ tables) = table_dimensions spanning variables depths place table
+    ∷ dimensions_from spanning variables depths (place + 1) tables
 
 -- the response of the tables
 abbrev pub response_of : List TableLine → List ℕ
@@ -55,11 +75,11 @@ weight_decimals rules variables = if rules.weighted then decimals_of (find (λ v
 abbrev pub weight_place : Rules → List Variable → Option ℕ
 weight_place rules variables = if rules.weighted then first_place (λ v. v.weight) variables else None
 
--- The variables of a job as places. Not: the weight's digits in the unit where records have no weights.
+-- The variables of a job as places, each table's down to their depths. Not: the weight's digits in the unit where records have no weights.
 abbrev pub places_of : Job → List Variable → Bound
 places_of job variables = record {
   spanning = spanning_of job.tables variables;
-  tables = map (λ t. table_places (spanning_of job.tables variables) variables t) job.tables;
+  tables = dimensions_from (spanning_of job.tables variables) variables job.depths 0 job.tables;
   response = variable_place variables (response_of job.tables);
   weight = weight_place job.rules variables;
   decimals = response_decimals job.tables variables + weight_decimals job.rules variables;

@@ -31,9 +31,9 @@ pub record IsBound (job : Job) (variables : List Variable) (bound : Bound) : Typ
   pub ascending : AreAscending bound.spanning
   pub at_most_8_spanning : length bound.spanning ≤ 8
   pub spanning : AllByRecursion (IsNumericAt false variables) bound.spanning
-  pub tables : map (λ places. length places) bound.tables ≡ map (λ t. length t.variables) job.tables
-  pub within : AllByRecursion (λ places. AllByRecursion (λ k. k < length bound.spanning) places) bound.tables
-  pub once : AllByRecursion (λ places. IsDistinct ◌==◌ places) bound.tables
+  pub tables : map (λ dimensions. length dimensions) bound.tables ≡ map (λ t. length t.variables) job.tables
+  pub within : AllByRecursion (λ dimensions. AllByRecursion (λ one. one.variable < length bound.spanning) dimensions) bound.tables
+  pub once : AllByRecursion (λ dimensions. IsDistinct ◌==◌ (map (λ one. one.variable) dimensions)) bound.tables
   pub response : IsNumericAt true variables bound.response
   pub decimals : bound.decimals ≤ 13
   pub scale : (bound.scale ≡ 10 ^ weight_decimals job.rules variables) × (weight_decimals job.rules variables ≤ 4)

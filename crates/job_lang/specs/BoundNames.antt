@@ -1,6 +1,7 @@
 -- What binding means: the places of a bound job are those of the variables that the job names (own).
 use Rattle.std.specs.Prelude.{◌≡◌, ℕ, true, false, List, [], ◌∷◌, Some, Ok, slice_get}
 use Rattle.std.specs.List.{AllByRecursion}
+use Rattle.sdc_base.specs.declared.dimension.Dimension.{Dimension}
 use Rattle.rda_meta.specs.declared.meta.Meta.{Meta}
 use Rattle.rda_meta.specs.declared.meta.Variable.{Variable}
 use Rattle.job_lang.specs.declared.job.Job.{Job}
@@ -18,17 +19,17 @@ abbrev pub IsSpannedAt : List Variable → List ℕ → ℕ → List ℕ → Typ
 IsSpannedAt variables spanning k name =
     (place : ℕ) × (slice_get spanning k ≡ Some place) × IsNamedAt variables place name
 
--- these places are, one by one, those of the variables with these names
-abbrev pub AreNamedAt : List Variable → List ℕ → List ℕ → List (List ℕ) → Type 0
+-- these dimensions are, one by one, of the variables with these names
+abbrev pub AreNamedAt : List Variable → List ℕ → List Dimension → List (List ℕ) → Type 0
 AreNamedAt variables spanning [] [] = Unit {0}
-AreNamedAt variables spanning (k ∷ places) (name ∷ names) = IsSpannedAt variables spanning k name
-    × AreNamedAt variables spanning places names
-AreNamedAt variables spanning places names = true ≡ false
+AreNamedAt variables spanning (one ∷ dimensions) (name ∷ names) = IsSpannedAt variables spanning one.variable name
+    × AreNamedAt variables spanning dimensions names
+AreNamedAt variables spanning dimensions names = true ≡ false
 
--- each table has the places of the variables that its line names, in the line's order
-abbrev pub HaveNamesAt : List Variable → List ℕ → List (List ℕ) → List TableLine → Type 0
+-- each table has the dimensions of the variables that its line names, in the line's order
+abbrev pub HaveNamesAt : List Variable → List ℕ → List (List Dimension) → List TableLine → Type 0
 HaveNamesAt variables spanning [] [] = Unit {0}
-HaveNamesAt variables spanning (places ∷ rest) (table ∷ tables) = AreNamedAt variables spanning places table.variables
+HaveNamesAt variables spanning (dimensions ∷ rest) (table ∷ tables) = AreNamedAt variables spanning dimensions table.variables
     × HaveNamesAt variables spanning rest tables
 HaveNamesAt variables spanning rest tables = true ≡ false
 

@@ -5,6 +5,7 @@ use Rattle.cost_rule.specs.declared.kind.CostKind.{CostKind}
 use Rattle.cost_rule.specs.declared.kind.CostKind.TheVariants as kind
 use Rattle.sdc_base.specs.Tokens.{number_in}
 use Rattle.sdc_base.specs.declared.method.Method.{Method}
+use Rattle.job_lang.specs.declared.job.DepthLine.{DepthLine}
 use Rattle.job_lang.specs.declared.job.OutputLine.{OutputLine}
 use Rattle.job_lang.specs.declared.job.PriorLine.{PriorLine}
 use Rattle.job_lang.specs.declared.statement.Keyword.{Keyword}
@@ -104,3 +105,14 @@ prior_in line one = []
 abbrev pub priors_in : List Statement → List PriorLine
 priors_in [] = []
 priors_in (s ∷ rest) = prior_in s.line s.said ++ priors_in rest
+
+-- a depth with its line
+abbrev pub depth_in : ℕ → Instruction → List DepthLine
+depth_in line (said.Depth number variable depth) = record
+    { line = line; table = table_place number; variable = variable; depth = depth } ∷ []
+depth_in line one = []
+
+-- the depths in the order of their lines
+abbrev pub depths_in : List Statement → List DepthLine
+depths_in [] = []
+depths_in (s ∷ rest) = depth_in s.line s.said ++ depths_in rest

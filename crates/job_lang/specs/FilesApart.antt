@@ -16,10 +16,11 @@ use Rattle.job_lang.specs.declared.statement.Statement.{Statement}
 abbrev pub is_no_table : ℕ → List ℕ → Bool
 is_no_table count number = is_none (number_in 1 count number)
 
--- an a priori file or an output of no table
+-- an a priori file, an output or a depth of no table
 abbrev pub is_astray : ℕ → Instruction → Bool
 is_astray count (said.Prior file number separator) = is_no_table count number
 is_astray count (said.Output number file) = is_no_table count number
+is_astray count (said.Depth number variable depth) = is_no_table count number
 is_astray count one = false
 
 -- the first line that names no table is a fault

@@ -1,5 +1,5 @@
 -- What holds of a job that is read: the limits of its tables, rules and numbers (own).
-use Rattle.std.specs.Prelude.{◌≡◌, ℕ, ◌<◌, ◌≤◌, ◌^◌, List, length, pos, ◌≤ℤ◌, Option, Some}
+use Rattle.std.specs.Prelude.{◌≡◌, ℕ, ◌<◌, ◌≤◌, ◌^◌, true, List, length, slice_get, pos, ◌≤ℤ◌, Option, Some}
 use Rattle.std.specs.List.{AllByRecursion, IsDistinct}
 use Rattle.std.specs.Set.{distinct_count}
 use Rattle.std.specs.Str.{bytes_eq}
@@ -8,12 +8,15 @@ use Rattle.sdc_base.specs.declared.method.Method.TheVariants.{Gh, Modular, Rnd}
 use Rattle.sdc_base.specs.declared.rule.Rule.{Rule}
 use Rattle.sdc_base.specs.declared.rule.Rule.TheVariants.{Freq, Nk, Percent, Pq, Zero}
 use Rattle.sdc_base.specs.declared.rule.Rules.{Rules}
+use Rattle.sdc_base.specs.CutTrees.{whole_depth}
+use Rattle.job_lang.specs.declared.job.DepthLine.{DepthLine}
 use Rattle.job_lang.specs.declared.job.Job.{Job}
 use Rattle.job_lang.specs.declared.job.OutputLine.{OutputLine}
 use Rattle.job_lang.specs.declared.job.TableLine.{TableLine}
 use Rattle.job_lang.specs.Statements.{names_in}
 use Rattle.job_lang.specs.Binding.{response_of}
 use Rattle.job_lang.specs.TableTexts.{most_variables}
+use Rattle.job_lang.specs.SpannedDepths.{spans_table}
 
 -- no variable stands twice in a table
 abbrev pub HasNoTwice : TableLine → Type 0
@@ -60,6 +63,12 @@ abbrev pub CanHaveContributors : Method → Option OutputLine → Type 0
 CanHaveContributors (Rnd base) (Some output) = ⊥
 CanHaveContributors method contributors = Unit {0}
 
+-- a depth from 1 to 9 of a variable that its table spans
+pub record IsDepth (tables : List TableLine) (line : DepthLine) : Type 0 where
+  pub table : line.table < length tables
+  pub spanned : spans_table line.variable (slice_get tables line.table) ≡ true
+  pub depth : (1 ≤ line.depth) × (line.depth ≤ whole_depth)
+
 -- a job within all limits
 pub record IsJob (job : Job) : Type 0 where
   pub tables : AreTables job.tables
@@ -72,3 +81,4 @@ pub record IsJob (job : Job) : Type 0 where
   pub steps : IsWork job.steps
   pub nodes : IsWork job.nodes
   pub contributors : CanHaveContributors job.method job.contributors
+  pub depths : AllByRecursion (IsDepth job.tables) job.depths

@@ -1,6 +1,7 @@
 -- The canonical text of a job: a line for each command, in the order of the table of commands (own).
 use Rattle.std.specs.Prelude.{ℕ, ◌+◌, List, [], ◌∷◌, ◌++◌, length, map, Option, None, Some, option_map}
 use Rattle.sdc_base.specs.Lines.{text_of_lines}
+use Rattle.job_lang.specs.declared.job.DepthLine.{DepthLine}
 use Rattle.job_lang.specs.declared.job.Job.{Job}
 use Rattle.job_lang.specs.declared.job.OutputLine.{OutputLine}
 use Rattle.job_lang.specs.declared.job.PriorLine.{PriorLine}
@@ -29,6 +30,10 @@ abbrev pub contributors_said : Option OutputLine → List Instruction
 contributors_said None = []
 contributors_said (Some output) = said.Contributors output.file ∷ []
 
+-- the depth of a variable in a table
+abbrev pub depth_said : DepthLine → Instruction
+depth_said line = said.Depth (table_number line.table) line.variable line.depth
+
 -- all that a job says
 abbrev pub job_says : Job → List Instruction
 job_says job =
@@ -36,7 +41,7 @@ job_says job =
     ++ (said.Safety job.rules ∷ said.Read ∷ map prior_said job.priors
     ++ (said.Cost job.cost ∷ said.Steps job.steps ∷ said.Nodes job.nodes ∷ said.Suppress job.method
     ∷ outputs_said 0 job.outputs
-    ++ said.Certificate job.certificate ∷ contributors_said job.contributors))
+    ++ said.Certificate job.certificate ∷ contributors_said job.contributors ++ map depth_said job.depths))
 
 -- the canonical text of a job: its lines, each ended by LF
 abbrev pub job_text : Job → List ℕ
@@ -59,6 +64,11 @@ abbrev pub outputs_at : ℕ → List OutputLine → List OutputLine
 outputs_at line [] = []
 outputs_at line (output ∷ outputs) = record output { line = line } ∷ outputs_at (line + 1) outputs
 
+-- depths in one line after the other from this one on
+abbrev pub depths_from : ℕ → List DepthLine → List DepthLine
+depths_from line [] = []
+depths_from line (depth ∷ depths) = record depth { line = line } ∷ depths_from (line + 1) depths
+
 -- an output in this line, where there is one
 abbrev pub output_at : ℕ → Option OutputLine → Option OutputLine
 output_at line output = option_map (λ (one : OutputLine). record one { line = line }) output
@@ -72,4 +82,6 @@ in_text job = record job {
   outputs = outputs_at (9 + length job.tables + length job.priors) job.outputs;
   certificate_line = 9 + length job.tables + length job.priors + length job.outputs;
   contributors = output_at (10 + length job.tables + length job.priors + length job.outputs) job.contributors;
+  depths = depths_from
+      (10 + length job.tables + length job.priors + length job.outputs + length (contributors_said job.contributors)) job.depths;
 }

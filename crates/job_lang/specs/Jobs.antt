@@ -9,9 +9,10 @@ use Rattle.job_lang.specs.declared.job.Job.{Job}
 use Rattle.job_lang.specs.declared.statement.Keyword.TheVariants as keyword
 use Rattle.job_lang.specs.declared.statement.Draft.{Draft}
 use Rattle.job_lang.specs.Statements.{lines_say, empty_draft}
-use Rattle.job_lang.specs.ClosingLooks.{statement_by, file_line, rules_line, method_of, cost_of, work_of, usual_steps, usual_nodes, priors_in}
+use Rattle.job_lang.specs.ClosingLooks.{statement_by, file_line, rules_line, method_of, cost_of, work_of, usual_steps, usual_nodes, priors_in, depths_in}
 use Rattle.job_lang.specs.MissingCommands.{needed_value, outputs_from}
 use Rattle.job_lang.specs.FilesApart.{no_stray, no_same_name}
+use Rattle.job_lang.specs.SpannedDepths.{no_outside}
 use Rattle.job_lang.specs.RoundedContributors.{no_rounded_contributors}
 
 -- The job of all that was said: each command that must be there, in the order of the table, and the others with their
@@ -40,6 +41,7 @@ job_made draft = do
     certificate = certificate.file;
     certificate_line = certificate.line;
     contributors = file_line (statement_by keyword.Contributors draft.said);
+    depths = depths_in draft.said;
   })
 
 -- the closing looks at what the lines say, and the job
@@ -47,6 +49,7 @@ unfoldable pub closed_job : Draft → Result Job (ℕ × JobWhy)
 closed_job draft = do
   fit ← no_rounded_contributors draft.said
   placed ← no_stray (length draft.tables) draft.said
+  spanned ← no_outside draft.tables draft.said
   apart ← no_same_name draft.said draft.said
   job_made draft
 

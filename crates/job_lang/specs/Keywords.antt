@@ -1,5 +1,5 @@
--- The commands of a job and their words (tau-ARGUS user manual; COST, STEPS, NODES, CERTIFICATE and
--- CONTRIBUTORS own).
+-- The commands of a job and their words (tau-ARGUS user manual; COST, STEPS, NODES, CERTIFICATE,
+-- CONTRIBUTORS and DEPTH own).
 use Rattle.std.specs.Prelude.{ℕ, Bool, not, ◌==◌, codes, if◌then◌else◌, List, [], ◌∷◌, length, Option, None, Some, Result, Ok, Err}
 use Rattle.std.specs.List.{list_any, before_first, after_first}
 use Rattle.std.specs.Str.{str_eq_ignore_ascii_case}
@@ -10,7 +10,7 @@ use Rattle.job_lang.specs.declared.faults.JobWhy.TheVariants.{BadLine}
 use denote.Enum.Bare.{sameb}
 use Rattle.job_lang.specs.contracts.statement.Keyword.{the_type}
 use Rattle.job_lang.specs.declared.statement.Keyword.{Keyword}
-use Rattle.job_lang.specs.declared.statement.Keyword.TheVariants.{OpenMicrodata, OpenMetadata, SpecifyTable, SafetyRule, ReadMicrodata, Apriori, Cost, Steps, Nodes, Suppress, WriteTable, Certificate, Contributors}
+use Rattle.job_lang.specs.declared.statement.Keyword.TheVariants.{OpenMicrodata, OpenMetadata, SpecifyTable, SafetyRule, ReadMicrodata, Apriori, Cost, Steps, Nodes, Suppress, WriteTable, Certificate, Contributors, Depth}
 
 -- the command of this word, in letters of any case
 unfoldable pub keyword_of : List ℕ → Option Keyword
@@ -28,6 +28,7 @@ keyword_of word =
     else if str_eq_ignore_ascii_case word (codes "WRITETABLE") then Some WriteTable
     else if str_eq_ignore_ascii_case word (codes "CERTIFICATE") then Some Certificate
     else if str_eq_ignore_ascii_case word (codes "CONTRIBUTORS") then Some Contributors
+    else if str_eq_ignore_ascii_case word (codes "DEPTH") then Some Depth
     else None
 
 -- both are one command

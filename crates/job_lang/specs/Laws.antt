@@ -7,7 +7,7 @@ use Rattle.sdc_base.specs.Lines.{lines}
 use Rattle.rda_meta.specs.Limits.{IsMeta}
 use Rattle.rda_meta.specs.declared.meta.Meta.{Meta}
 use Rattle.job_lang.specs.declared.faults.JobWhy.{JobWhy}
-use Rattle.job_lang.specs.declared.faults.JobWhy.TheVariants.{BadValue, NoSuchTable, SameName, Missing}
+use Rattle.job_lang.specs.declared.faults.JobWhy.TheVariants.{BadValue, NoSuchTable, NotInTable, SameName, Missing}
 use Rattle.job_lang.specs.declared.faults.Command.{Command}
 use Rattle.job_lang.specs.declared.faults.Command.TheVariants as command
 use Rattle.job_lang.specs.declared.statement.Keyword.TheVariants as keyword
@@ -16,6 +16,7 @@ use Rattle.job_lang.specs.declared.statement.Draft.{Draft}
 use Rattle.job_lang.specs.Statements.{text_says, lines_say, empty_draft}
 use Rattle.job_lang.specs.ClosingLooks.{statement_by, file_line, rules_line, method_of, output_said}
 use Rattle.job_lang.specs.FilesApart.{is_astray, puts_shared_file}
+use Rattle.job_lang.specs.SpannedDepths.{is_outside}
 use Rattle.job_lang.specs.RoundedContributors.{is_rounding}
 use Rattle.job_lang.specs.Jobs.{job_of}
 use Rattle.job_lang.specs.BoundLimits.{AreVariables}
@@ -70,11 +71,20 @@ IsFirstStray draft line why =
     (s : Statement) × (has_unfit_line draft ≡ false)
     × (find (λ s. is_astray (length draft.tables) s.said) draft.said ≡ Some s) × (line ≡ s.line) × (why ≡ NoSuchTable)
 
--- That line isn't unfit, every line that names a table names one of the job's, and this is the first that puts a file whose name another has.
+-- That line isn't unfit, every line that names a table names one of the job's, and this is the first that gives a depth
+-- of a variable which its table doesn't span.
+abbrev pub IsFirstOutside : Draft → ℕ → JobWhy → Type 0
+IsFirstOutside draft line why =
+    (s : Statement) × (has_unfit_line draft ≡ false)
+    × (list_any (λ s. is_astray (length draft.tables) s.said) draft.said ≡ false)
+    × (find (λ s. is_outside draft.tables s.said) draft.said ≡ Some s) × (line ≡ s.line) × (why ≡ NotInTable)
+
+-- None of these is so, and this is the first line that puts a file whose name another has.
 abbrev pub IsFirstMeeting : Draft → ℕ → JobWhy → Type 0
 IsFirstMeeting draft line why =
     (s : Statement) × (has_unfit_line draft ≡ false)
     × (list_any (λ s. is_astray (length draft.tables) s.said) draft.said ≡ false)
+    × (list_any (λ s. is_outside draft.tables s.said) draft.said ≡ false)
     × (find (λ s. puts_shared_file draft.said s.said) draft.said ≡ Some s) × (line ≡ s.line) × (why ≡ SameName)
 
 -- None of these is so, and this is the first command that lacks; the line is 0.
@@ -82,17 +92,20 @@ abbrev pub IsFirstLack : Draft → ℕ → JobWhy → Type 0
 IsFirstLack draft line why =
     (which : Command) × (has_unfit_line draft ≡ false)
     × (list_any (λ s. is_astray (length draft.tables) s.said) draft.said ≡ false)
+    × (list_any (λ s. is_outside draft.tables s.said) draft.said ≡ false)
     × (list_any (λ s. puts_shared_file draft.said s.said) draft.said ≡ false)
     × (find (lacks_command draft) must_have ≡ Some which) × (line ≡ 0) × (why ≡ Missing which)
 
 -- The fault that is given is that of the first line that has one; else the contributors' file of a job that rounds, the
--- first number of no table, the first name that meets another, and the first command that lacks, in this order.
+-- first number of no table, the first depth of a variable that its table doesn't span, the first name that meets another,
+-- and the first command that lacks, in this order.
 abbrev pub IsInOrder : Type 0
 IsInOrder =
     (bytes : List ℕ) (line : ℕ) (why : JobWhy) → job_of bytes ≡ Err (line, why)
     → IsLineFault (lines bytes) line why
     ⊎ ((draft : Draft) × (lines_say 0 empty_draft (lines bytes) ≡ Ok draft)
-    × (IsUnfitLine draft line why ⊎ IsFirstStray draft line why ⊎ IsFirstMeeting draft line why ⊎ IsFirstLack draft line why))
+    × (IsUnfitLine draft line why ⊎ IsFirstStray draft line why ⊎ IsFirstOutside draft line why
+    ⊎ IsFirstMeeting draft line why ⊎ IsFirstLack draft line why))
 
 -- ---- metadata that were read
 

@@ -11,6 +11,7 @@ pub mod Statements
 pub mod ClosingLooks
 pub mod MissingCommands
 pub mod FilesApart
+pub mod SpannedDepths
 pub mod RoundedContributors
 pub mod Jobs
 pub mod BindingFaults

@@ -17,7 +17,7 @@ use Rattle.job_lang.specs.declared.statement.Statement.{Statement}
 use Rattle.job_lang.specs.Keywords.{keyword_of, word_in}
 use Rattle.job_lang.specs.Arguments.{argument_of}
 use Rattle.job_lang.specs.Statements.{is_by, is_passed_over}
-use Rattle.job_lang.specs.ClosingLooks.{priors_in, output_said, file_line}
+use Rattle.job_lang.specs.ClosingLooks.{priors_in, depths_in, output_said, file_line}
 use Rattle.job_lang.specs.Jobs.{job_of}
 
 -- what a line says by itself
@@ -83,7 +83,7 @@ contributors_lines None = []
 contributors_lines (Some output) = record { line = output.line; said = said.Contributors output.file } ∷ []
 
 -- A job has its tables in the order of their lines. Each other part is what exactly one line states, or the default
--- where no line states it; the a priori files are those of all lines; and each table's output is that of the first line
+-- where no line states it; the a priori files and the depths are those of all lines; and each table's output is that of the first line
 -- with its number.
 pub record IsMeant (bytes : List ℕ) (job : Job) : Type 0 where
   pub tables : job.tables ≡ tables_among (stated_in 0 (lines bytes))
@@ -99,6 +99,7 @@ pub record IsMeant (bytes : List ℕ) (job : Job) : Type 0 where
   pub steps : IsStatedOrElse keyword.Steps (others_in bytes) (said.Steps job.steps) (job.steps ≡ 100000)
   pub nodes : IsStatedOrElse keyword.Nodes (others_in bytes) (said.Nodes job.nodes) (job.nodes ≡ 1000000)
   pub priors : job.priors ≡ priors_in (others_in bytes)
+  pub depths : job.depths ≡ depths_in (others_in bytes)
   pub outputs : (place : ℕ) → place < length job.tables
       → file_line (output_said place (others_in bytes)) ≡ slice_get job.outputs place
 

@@ -29,6 +29,7 @@ flat_job = record {
   certificate = codes "t.cert";
   certificate_line = 8;
   contributors = None;
+  depths = [];
 }
 
 -- the eight lines of that job
@@ -40,7 +41,7 @@ EightLines =
     ∷ codes "<SUPPRESS> MOD()" ∷ codes "<WRITETABLE> (1,\"t.csv\")" ∷ codes "<CERTIFICATE> \"t.cert\"" ∷ []))
     ≡ Ok flat_job
 
--- a job of two tables with an a priori file for the second
+-- a job of two tables with an a priori file for the second, which has its variable down to level 2
 abbrev pub full_job : Job
 full_job = record {
   micro = codes "m.asc";
@@ -58,6 +59,7 @@ full_job = record {
   certificate = codes "t.cert";
   certificate_line = 14;
   contributors = Some (record { line = 15; file = codes "g.txt" });
+  depths = record { line = 16; table = 1; variable = codes "B"; depth = 2 } ∷ [];
 }
 
 -- the canonical text of that job
@@ -71,7 +73,7 @@ FullText =
     ∷ codes "<APRIORI> \"p.hst\",2,\";\"" ∷ codes "<COST> FREQ" ∷ codes "<STEPS> 50"
     ∷ codes "<NODES> 7" ∷ codes "<SUPPRESS> GH(2)" ∷ codes "<WRITETABLE> (1,\"ab.csv\")"
     ∷ codes "<WRITETABLE> (2,\"b.csv\")" ∷ codes "<CERTIFICATE> \"t.cert\""
-    ∷ codes "<CONTRIBUTORS> \"g.txt\"" ∷ [])
+    ∷ codes "<CONTRIBUTORS> \"g.txt\"" ∷ codes "<DEPTH> (2,\"B\",2)" ∷ [])
 
 -- its lines are those of that text
 abbrev pub FullLines : Type 0
@@ -91,6 +93,36 @@ RoundedContributorsFirst =
     job_of (text_of_lines (
     codes "<WRITETABLE> (1,\"t.csv\")" ∷ codes "<CONTRIBUTORS> \"g.txt\"" ∷ codes "<SUPPRESS> RND(5)" ∷ []))
     ≡ Err (2, why.BadValue)
+
+-- The depth of a variable that its table doesn't span is given before an output that is named like the microdata, and
+-- its number, with zeros in front, is that of a table.
+abbrev pub OutsideBeforeNames : Type 0
+OutsideBeforeNames =
+    job_of (text_of_lines (
+    codes "<OPENMICRODATA> \"m.asc\"" ∷ codes "<WRITETABLE> (1,\"m.asc\")" ∷ codes "<SPECIFYTABLE> \"A\"|\"V\""
+    ∷ codes "<DEPTH> ( 01 , \"a\" , 2 )" ∷ []))
+    ≡ Err (4, why.NotInTable)
+
+-- A number of no table is given before that, although its line comes later.
+abbrev pub NumbersBeforeOutside : Type 0
+NumbersBeforeOutside =
+    job_of (text_of_lines (
+    codes "<SPECIFYTABLE> \"A\"|\"V\"" ∷ codes "<DEPTH> (1,\"V\",2)" ∷ codes "<DEPTH> (2,\"A\",2)" ∷ []))
+    ≡ Err (3, why.NoSuchTable)
+
+-- A table may have one depth for each of its variables, and no second one for one of them, were it the same.
+abbrev pub DepthTwice : Type 0
+DepthTwice =
+    job_of (text_of_lines (
+    codes "<DEPTH> (1,\"A\",2)" ∷ codes "<DEPTH> (1,\"B\",2)" ∷ codes "<DEPTH> (2,\"A\",2)"
+    ∷ codes "<depth> (01,\"A\",2)" ∷ []))
+    ≡ Err (4, why.Twice)
+
+-- A depth is a whole number from 1 to 9.
+abbrev pub DepthFromOneToNine : Type 0
+DepthFromOneToNine =
+    (job_of (text_of_lines (codes "<DEPTH> (1,\"A\",0)" ∷ [])) ≡ Err (1, why.BadValue))
+    × (job_of (text_of_lines (codes "<DEPTH> (1,\"A\",9)" ∷ codes "<DEPTH> (1,\"A\",10)" ∷ [])) ≡ Err (2, why.BadValue))
 
 -- a variable of the metadata of that job
 abbrev pub variable : List ℕ → Bool → ℕ → Option (List ℕ) → Variable
@@ -115,7 +147,32 @@ BindsInAnyOrder =
       variables = variable (codes "V") true 2 None ∷ variable (codes "A") false 0 None ∷ [];
       passed_over = 0;
     })
-    ≡ Ok (record { spanning = 1 ∷ []; tables = (0 ∷ []) ∷ []; response = 0; weight = None; decimals = 2; scale = 1 })
+    ≡ Ok (record {
+      spanning = 1 ∷ [];
+      tables = (record { variable = 0; depth = 9 } ∷ []) ∷ [];
+      response = 0;
+      weight = None;
+      decimals = 2;
+      scale = 1;
+    })
+
+-- Bound to the metadata of its variables, in the order of the tables: only the second table has a depth of its own.
+abbrev pub BindsDepths : Type 0
+BindsDepths =
+    bound_of (record full_job { rules = flat_job.rules }) (record {
+      variables = variable (codes "A") false 0 None ∷ variable (codes "B") false 0 None
+          ∷ variable (codes "V") true 0 None ∷ [];
+      passed_over = 0;
+    })
+    ≡ Ok (record {
+      spanning = 0 ∷ 1 ∷ [];
+      tables = (record { variable = 0; depth = 9 } ∷ record { variable = 1; depth = 9 } ∷ [])
+          ∷ (record { variable = 1; depth = 2 } ∷ []) ∷ [];
+      response = 2;
+      weight = None;
+      decimals = 0;
+      scale = 1;
+    })
 
 -- The certificate is the code list of the variable that spans the table.
 abbrev pub CodeListMet : Type 0

@@ -10,7 +10,7 @@ use Rattle.sdc_base.specs.declared.rule.Rules.{Rules}
 use Rattle.job_lang.specs.declared.rule_clauses.RuleClause.{RuleClause}
 use Rattle.job_lang.specs.declared.rule_clauses.RuleClause.TheVariants.{Named, Man, Weights}
 use Rattle.job_lang.specs.declared.statement.Keyword.{Keyword}
-use Rattle.job_lang.specs.declared.statement.Keyword.TheVariants.{OpenMicrodata, OpenMetadata, SpecifyTable, SafetyRule, ReadMicrodata, Apriori, Cost, Steps, Nodes, Suppress, WriteTable, Certificate, Contributors}
+use Rattle.job_lang.specs.declared.statement.Keyword.TheVariants.{OpenMicrodata, OpenMetadata, SpecifyTable, SafetyRule, ReadMicrodata, Apriori, Cost, Steps, Nodes, Suppress, WriteTable, Certificate, Contributors, Depth}
 use Rattle.job_lang.specs.declared.statement.Instruction.{Instruction}
 use Rattle.job_lang.specs.declared.statement.Instruction.TheVariants as said
 use Rattle.job_lang.specs.Statements.{command_of}
@@ -33,6 +33,7 @@ word_of Suppress = codes "SUPPRESS"
 word_of WriteTable = codes "WRITETABLE"
 word_of Certificate = codes "CERTIFICATE"
 word_of Contributors = codes "CONTRIBUTORS"
+word_of Depth = codes "DEPTH"
 
 -- names between double quotes, one right behind the other
 abbrev pub quoted_each : List (List ℕ) → List ℕ
@@ -106,6 +107,8 @@ argument_text (said.Suppress method) = 32 ∷ method_text method
 argument_text (said.Output number file) = 32 ∷ 40 ∷ number ++ (44 ∷ in_quotes file ++ 41 ∷ [])
 argument_text (said.Certificate name) = 32 ∷ in_quotes name
 argument_text (said.Contributors name) = 32 ∷ in_quotes name
+argument_text (said.Depth number variable depth) = 32 ∷ 40 ∷ number
+    ++ (44 ∷ in_quotes variable ++ (44 ∷ decimal depth ++ 41 ∷ []))
 
 -- the line by which it is said
 abbrev pub said_line : Instruction → List ℕ

@@ -1,5 +1,5 @@
 -- What the lines so far say, and what one more line says behind them (tau-ARGUS user manual; order of faults own).
-use Rattle.std.specs.Prelude.{ℕ, ◌+◌, Bool, true, false, not, ◌||◌, ◌==◌, nat_le, nat_lt, if◌then◌else◌, List, [], ◌∷◌, ◌++◌, length, flat_map, Result, Ok}
+use Rattle.std.specs.Prelude.{ℕ, ◌+◌, Bool, true, false, not, ◌||◌, ◌&&◌, ◌==◌, nat_le, nat_lt, if◌then◌else◌, List, [], ◌∷◌, ◌++◌, length, flat_map, Result, Ok}
 use Rattle.std.specs.List.{list_any}
 use Rattle.std.specs.Set.{distinct_count}
 use Rattle.std.specs.Str.{bytes_eq}
@@ -9,7 +9,7 @@ use Rattle.job_lang.specs.declared.faults.JobWhy.{JobWhy}
 use Rattle.job_lang.specs.declared.faults.JobWhy.TheVariants.{UnknownCommand, Twice, TooMany, OtherResponse}
 use Rattle.job_lang.specs.declared.job.TableLine.{TableLine}
 use Rattle.job_lang.specs.declared.statement.Keyword.{Keyword}
-use Rattle.job_lang.specs.declared.statement.Keyword.TheVariants.{OpenMicrodata, OpenMetadata, SpecifyTable, SafetyRule, ReadMicrodata, Apriori, Cost, Steps, Nodes, Suppress, WriteTable, Certificate, Contributors}
+use Rattle.job_lang.specs.declared.statement.Keyword.TheVariants.{OpenMicrodata, OpenMetadata, SpecifyTable, SafetyRule, ReadMicrodata, Apriori, Cost, Steps, Nodes, Suppress, WriteTable, Certificate, Contributors, Depth}
 use Rattle.job_lang.specs.declared.statement.Instruction.{Instruction}
 use Rattle.job_lang.specs.declared.statement.Instruction.TheVariants as said
 use Rattle.job_lang.specs.declared.statement.Statement.{Statement}
@@ -33,6 +33,7 @@ command_of (said.Suppress method) = Suppress
 command_of (said.Output number file) = WriteTable
 command_of (said.Certificate name) = Certificate
 command_of (said.Contributors name) = Contributors
+command_of (said.Depth number variable depth) = Depth
 
 -- it is said by this command
 abbrev pub is_by : Keyword → Instruction → Bool
@@ -48,12 +49,18 @@ abbrev pub is_output_of : List ℕ → Instruction → Bool
 is_output_of number (said.Output other file) = bytes_eq other number
 is_output_of number one = false
 
--- It is said before: an a priori file or an output for the same table, all else by the same command. Tables are no
--- repetition.
+-- a depth of this variable in the table with this number
+abbrev pub is_depth_of : List ℕ → List ℕ → Instruction → Bool
+is_depth_of number variable (said.Depth other name depth) = bytes_eq other number && bytes_eq name variable
+is_depth_of number variable one = false
+
+-- It is said before: an a priori file or an output for the same table, a depth for the same table and variable, all else
+-- by the same command. Tables are no repetition.
 abbrev pub is_again : Instruction → List Statement → Bool
 is_again (said.Table variables response) before = false
 is_again (said.Prior file number separator) before = list_any (λ s. is_prior_of number s.said) before
 is_again (said.Output number file) before = list_any (λ s. is_output_of number s.said) before
+is_again (said.Depth number variable depth) before = list_any (λ s. is_depth_of number variable s.said) before
 is_again one before = list_any (λ s. is_by (command_of one) s.said) before
 
 -- all names of variables that span tables, as often as they stand

@@ -1,5 +1,5 @@
 -- Which jobs have a canonical text, and the law that it is read as that job (own).
-use Rattle.std.specs.Prelude.{◌≡◌, ◌≢◌, ◌==◌, ℕ, ◌<◌, ◌≤◌, Bool, true, false, List, ◌++◌, length, map, Ok}
+use Rattle.std.specs.Prelude.{◌≡◌, ◌≢◌, ◌==◌, ℕ, ◌<◌, ◌≤◌, Bool, true, false, ◌&&◌, List, ◌++◌, length, map, Ok}
 use Rattle.std.specs.List.{AllByRecursion, IsDistinct, list_any, count_by}
 use Rattle.std.specs.Str.{bytes_eq}
 use Rattle.sdc_base.specs.Blanks.{trim}
@@ -7,6 +7,8 @@ use Rattle.sdc_base.specs.Lines.{is_line_feed, IsLine, HasNoFeed}
 use Rattle.sdc_base.specs.Tokens.{is_quote, is_file_name}
 use Rattle.sdc_base.specs.declared.rule.Rule.{Rule}
 use Rattle.sdc_base.specs.declared.rule.Rule.TheVariants.{Freq, Zero}
+use Rattle.sdc_base.specs.CutTrees.{whole_depth}
+use Rattle.job_lang.specs.declared.job.DepthLine.{DepthLine}
 use Rattle.job_lang.specs.declared.job.Job.{Job}
 use Rattle.job_lang.specs.declared.job.PriorLine.{PriorLine}
 use Rattle.job_lang.specs.declared.job.TableLine.{TableLine}
@@ -68,6 +70,8 @@ IsSpellable (said.Output number file) = (place : ℕ) × (place < 8) × (number 
     × (is_file_name file ≡ true)
 IsSpellable (said.Certificate name) = is_file_name name ≡ true
 IsSpellable (said.Contributors name) = is_file_name name ≡ true
+IsSpellable (said.Depth number variable depth) = (place : ℕ) × (place < 8) × (number ≡ table_number place)
+    × IsQuotable variable × (1 ≤ depth) × (depth ≤ whole_depth)
 
 -- A line of the canonical text is read as what it is the line of, without blanks at its ends, LF in it or CR at its
 -- end.
@@ -76,14 +80,19 @@ LinesAreRead =
     (one : Instruction) → IsSpellable one → (line_says (said_line one) ≡ Ok one) × (trim (said_line one) ≡ said_line one)
     × IsLine (said_line one)
 
--- A job within its limits whose names can be written, with at most one rule on frequencies, one on zeros and one a
--- priori file for each table, and whose files are told apart: each that is put from all others.
+-- both are depths of one variable in one table
+abbrev pub is_same_depth : DepthLine → DepthLine → Bool
+is_same_depth one other = (one.table == other.table) && bytes_eq one.variable other.variable
+
+-- A job within its limits whose names can be written, with at most one rule on frequencies, one on zeros, one a
+-- priori file for each table and one depth for each table and variable, and whose files are told apart: each that is put from all others.
 pub record IsWritable (job : Job) : Type 0 where
   pub limits : IsJob job
   pub rules : HasEachOnce job.rules.list
   pub names : AllByRecursion HasQuotable job.tables
   pub separators : AllByRecursion HasSeparator job.priors
   pub priors : IsDistinct ◌==◌ (map (λ p. p.table) job.priors)
+  pub depths : IsDistinct is_same_depth job.depths
   pub files : AllByRecursion (λ name. is_file_name name ≡ true) (reads_of job ++ puts_of job)
   pub puts : IsDistinct bytes_eq (puts_of job)
   pub apart : AllByRecursion (λ put. AllByRecursion (λ read. put ≢ read) (reads_of job)) (puts_of job)

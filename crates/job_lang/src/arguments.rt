@@ -20,6 +20,8 @@ use std::alloc::Global;
 
 // The greatest number of steps or nodes.
 const MOST_WORK: u64 = 1_000_000_000_000;
+// The greatest depth; no code of a tree is deeper.
+const MOST_DEPTH: u64 = 9;
 
 /// What the text behind a command says.
 #[tactic(auto, unfolding(crate::specs::Arguments::argument_of))]
@@ -44,6 +46,7 @@ pub(crate) fn argument_of(
         Keyword::WriteTable => output_argument(alloc, text),
         Keyword::Certificate => Ok(Instruction::Certificate(only_file(alloc, text)?)),
         Keyword::Contributors => Ok(Instruction::Contributors(only_file(alloc, text)?)),
+        Keyword::Depth => depth_argument(alloc, text),
     }
 }
 
@@ -135,6 +138,28 @@ fn output_argument(alloc: Global, text: &[u8]) -> Result<Instruction, Stop<JobWh
     let number = Text::from_slice(alloc, number)?;
     let file = Text::from_slice(alloc, file)?;
     Ok(Instruction::Output { number, file })
+}
+
+// The number of a table, one of its variables and the depth of that.
+#[tactic(auto, unfolding(crate::specs::Arguments::depth_argument))]
+fn depth_argument(alloc: Global, text: &[u8]) -> Result<Instruction, Stop<JobWhy>>
+    ensures { Gives why_of (λ said. said) result (spec.depth_argument text.now) }
+{
+    let mut cursor = at_front(text);
+    cursor.mark(b'(').map_err(Stop::Fault)?;
+    let number = cursor.digits().map_err(Stop::Fault)?;
+    cursor.mark(b',').map_err(Stop::Fault)?;
+    let variable = cursor.quoted_word().map_err(Stop::Fault)?;
+    cursor.mark(b',').map_err(Stop::Fault)?;
+    let depth = cursor.number(1, MOST_DEPTH).map_err(Stop::Fault)?;
+    cursor.close().map_err(Stop::Fault)?;
+    let number = Text::from_slice(alloc, number)?;
+    let variable = Text::from_slice(alloc, variable)?;
+    Ok(Instruction::Depth {
+        number,
+        variable,
+        depth: depth as u32,
+    })
 }
 
 // The kind of cost of a word, in letters of any case.

@@ -13,13 +13,17 @@ ghost use Rattle.job_lang.specs.BindingFaults as binding_faults;
 use crate::binding_faults::{earliest_fault, is_named, is_spanning};
 use crate::bound::Bound;
 use crate::faults::JobError;
-use crate::job::{Job, TableLine};
+use crate::job::{DepthLine, Job, TableLine};
 use arrayvec::ArrayVec;
 use rda_meta::{Meta, Variable};
-use sdc_base::{Few, Items, Memory, Place, Rules, Text};
+use sdc_base::{Dimension, Dimensions, Few, Items, Memory, Place, Rules, Text};
 use std::alloc::Global;
 
-/// The variables of a job as places in the metadata, or the earliest line with a fault and what is wrong with it.
+// No code of a tree is deeper.
+const WHOLE_DEPTH: u32 = 9;
+
+/// The variables of a job as places in the metadata, each table's with the depth to which it takes their trees, or the
+/// earliest line with a fault and what is wrong with it.
 ///
 /// A table's line is looked at for `NoSuchVariable`, `NotSpanning` and `NotNumeric`, each over all its variables and
 /// the response; the line of the rules for `NoWeight`; the lines of outputs, certificate and contributors' file for
@@ -31,7 +35,7 @@ use std::alloc::Global;
 /// most 64 variables of distinct names, one of them the weight at most, with at most 9 digits behind the point, and a
 /// weight with at most 4. Nothing is changed. Want of memory aside, the answer is the definition's.
 ///
-/// The cost is a look at each variable of the metadata for each name of the job.
+/// The cost is a look at each variable of the metadata, and one at each depth of the job, for each name of the job.
 #[tactic(auto, unfolding(crate::specs::Binding::bound_of))]
 pub fn bind(alloc: Global, job: &Job, meta: &Meta) -> Result<Bound, JobError>
     requires tables { AreTables job.now.tables }
@@ -58,7 +62,13 @@ fn places_of(alloc: Global, job: &Job, variables: &[Variable]) -> Result<Bound, 
 {
     let tables = job.tables.as_slice();
     let spanning = spanning_of(tables, variables);
-    let places = tables_places(alloc, spanning.as_slice(), variables, tables)?;
+    let dimensions = tables_dimensions(
+        alloc,
+        spanning.as_slice(),
+        variables,
+        job.depths.as_slice(),
+        tables,
+    )?;
     let response = response_place(variables, tables);
     let weight = weight_place(&job.rules, variables);
     let weight_decimals = weight_decimals(&job.rules, variables);
@@ -66,7 +76,7 @@ fn places_of(alloc: Global, job: &Job, variables: &[Variable]) -> Result<Bound, 
     let scale = 10u32.pow(u32::from(weight_decimals));
     Ok(Bound {
         spanning,
-        tables: places,
+        tables: dimensions,
         response,
         weight,
         decimals,
@@ -117,37 +127,82 @@ fn spanning_place(spanning: &[u32], variables: &[Variable], name: &Text) -> u32
     0
 }
 
-// The variables of a table as places among those that span tables.
-fn table_places(spanning: &[u32], variables: &[Variable], names: &[Text]) -> Place
+// Whether the line is of this variable in the table at this place.
+fn is_depth_for(place: usize, name: &Text, line: &DepthLine) -> bool
+    ensures { result ≡ spec.is_depth_for place name.now line.now }
+{
+    line.table as usize == place && line.variable.equals(name)
+}
+
+// The line of this variable in the table at this place.
+fn depth_line<'a>(depths: &'a [DepthLine], place: usize, name: &Text) -> Option<&'a DepthLine>
+    ensures { option_copied result ≡ find (spec.is_depth_for place name.now) depths.now }
+{
+    for line in depths {
+        if is_depth_for(place, name, line) {
+            return Some(line);
+        }
+    }
+    None
+}
+
+// The depth to which the table at this place takes the tree of this variable; the whole tree's where no line says one.
+fn depth_of(depths: &[DepthLine], place: usize, name: &Text) -> u32
+    ensures { result ≡ spec.depth_of depths.now place name.now }
+{
+    let Some(line) = depth_line(depths, place, name) else {
+        return WHOLE_DEPTH;
+    };
+    line.depth
+}
+
+// The dimensions of the table at this place, its variables as places among those that span tables.
+fn table_dimensions(
+    spanning: &[u32],
+    variables: &[Variable],
+    depths: &[DepthLine],
+    place: usize,
+    names: &[Text],
+) -> Dimensions
     requires at_most_8 { length spanning.now ≤ 8 }
     requires variables { length variables.now ≤ 64 }
     requires names { length names.now ≤ 8 }
-    ensures { result ≡ map (λ name. spec.spanning_place spanning.now variables.now name) names.now }
+    ensures { result ≡ map
+        (λ name. record {
+          variable = spec.spanning_place spanning.now variables.now name;
+          depth = spec.depth_of depths.now place name;
+        })
+        names.now }
 {
-    let mut places = ArrayVec::new();
+    let mut dimensions: ArrayVec<Dimension, 8> = ArrayVec::new();
     for name in names {
-        places.push(spanning_place(spanning, variables, name));
+        dimensions.push(Dimension {
+            variable: spanning_place(spanning, variables, name),
+            depth: depth_of(depths, place, name),
+        });
     }
-    Few::new(places)
+    Few::new(dimensions)
 }
 
-// The variables of each table as such places.
-fn tables_places(
+// The dimensions of each table.
+fn tables_dimensions(
     alloc: Global,
     spanning: &[u32],
     variables: &[Variable],
+    depths: &[DepthLine],
     tables: &[TableLine],
-) -> Result<Items<Place>, Memory>
+) -> Result<Items<Dimensions>, Memory>
     requires at_most_8 { length spanning.now ≤ 8 }
     requires variables { length variables.now ≤ 64 }
     requires widths { All (λ t. length t.variables ≤ 8) tables.now }
-    ensures { IfOk result (λ places. places ≡ map (λ t. spec.table_places spanning.now variables.now t) tables.now) }
+    ensures { IfOk result (λ all. all ≡ spec.dimensions_from spanning.now variables.now depths.now 0 tables.now) }
 {
-    let mut places = Items::empty(alloc);
-    for table in tables {
-        places.push(table_places(spanning, variables, table.variables.as_slice()))?;
+    let mut all = Items::empty(alloc);
+    for (place, table) in tables.iter().enumerate() {
+        let names = table.variables.as_slice();
+        all.push(table_dimensions(spanning, variables, depths, place, names))?;
     }
-    Ok(places)
+    Ok(all)
 }
 
 // The response of the tables.

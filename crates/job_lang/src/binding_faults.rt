@@ -90,8 +90,8 @@ fn weight_fault(variables: &[Variable], rules: &Rules) -> Option<JobWhy>
     None
 }
 
-// Whether the table is spanned by the variable of this name.
-fn is_spanned_by(name: &Text, names: &[Text]) -> bool
+/// Whether the table is spanned by the variable of this name.
+pub(crate) fn is_spanned_by(name: &Text, names: &[Text]) -> bool
     ensures { result ≡ list_any (λ n. bytes_eq n name.now) names.now }
 {
     names.iter().any(|n| n.equals(name))

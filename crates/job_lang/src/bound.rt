@@ -1,12 +1,13 @@
-use sdc_base::{Items, Place};
+use sdc_base::{Dimensions, Items, Place};
 
 /// A job's variables, looked up in the metadata.
 #[derive(Drop)]
 pub struct Bound {
     /// The variables that span the tables, as places in the metadata, ascending; at most 8.
     pub spanning: Place,
-    /// For each table its variables in their order, as places in `spanning`.
-    pub tables: Items<Place>,
+    /// For each table its variables in their order, as places in `spanning`, each with the depth to which the table
+    /// takes its tree: 9, which no tree exceeds, where the job says none.
+    pub tables: Items<Dimensions>,
     /// The response, as a place in the metadata.
     pub response: u32,
     /// The weight, as a place in the metadata, where records have weights.

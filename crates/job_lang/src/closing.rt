@@ -1,12 +1,16 @@
 ghost use Rattle.std.specs.Prelude.{◌≡◌, ◌≤◌, Some};
 ghost use Rattle.std.specs.List.{list_any, count_by};
+ghost use Rattle.std.specs.Option.{option_copied};
 ghost use Rattle.sdc_base.specs.Answers.{Gives};
 ghost use Rattle.job_lang.specs.Faults.{job_fault_of};
 ghost use Rattle.job_lang.specs.FilesApart as spec;
 ghost use Rattle.job_lang.specs.RoundedContributors as rounded_contributors;
+ghost use Rattle.job_lang.specs.SpannedDepths as spanned_depths;
 
+use crate::binding_faults::is_spanned_by;
 use crate::faults::{JobError, JobWhy};
-use crate::looked_up::{method_of, statement_by};
+use crate::job::TableLine;
+use crate::looked_up::{method_of, statement_by, table_place};
 use crate::statement::{Instruction, Keyword, Statement};
 use plain_text::number_in;
 use sdc_base::{Method, Text};
@@ -62,6 +66,7 @@ fn is_astray(count: usize, said: &Instruction) -> bool
     match said {
         Instruction::Prior { number, .. } => is_no_table(count, number),
         Instruction::Output { number, .. } => is_no_table(count, number),
+        Instruction::Depth { number, .. } => is_no_table(count, number),
         _ => false,
     }
 }
@@ -75,6 +80,43 @@ pub(crate) fn no_stray(count: usize, said: &[Statement]) -> Result<(), JobError>
     'said: for statement in said {
         if is_astray(count, &statement.said) {
             return Err(statement_error(statement, JobWhy::NoSuchTable));
+        }
+    }
+    Ok(())
+}
+
+// Whether the variable of this name spans the table.
+fn spans_table(name: &Text, table: Option<&TableLine>) -> bool
+    ensures { result ≡ spanned_depths.spans_table name.now (option_copied table.entry) }
+{
+    let Some(table) = table else {
+        return false;
+    };
+    is_spanned_by(name, table.variables.as_slice())
+}
+
+// Whether it is a depth of a variable that its table doesn't span.
+fn is_outside(tables: &[TableLine], said: &Instruction) -> bool
+    ensures { result ≡ spanned_depths.is_outside tables.now said.now }
+{
+    match said {
+        Instruction::Depth {
+            number,
+            variable,
+            ..
+        } => !spans_table(variable, tables.get(table_place(number) as usize)),
+        _ => false,
+    }
+}
+
+/// The first depth of a variable that its table doesn't span is a fault of its line.
+#[tactic(auto, unfolding(crate::specs::SpannedDepths::no_outside))]
+pub(crate) fn no_outside(tables: &[TableLine], said: &[Statement]) -> Result<(), JobError>
+    ensures { Gives job_fault_of (λ fine. fine) result (spanned_depths.no_outside tables.now said.now) }
+{
+    'said: for statement in said {
+        if is_outside(tables, &statement.said) {
+            return Err(statement_error(statement, JobWhy::NotInTable));
         }
     }
     Ok(())

@@ -17,7 +17,7 @@ pub enum Command {
 }
 
 /// What is wrong with a job. The kinds up to `OtherResponse` are looked for line by line, and within a line in their
-/// order; the next three behind the last line, one after the other; and the last four, with `SameName` once more,
+/// order; the next four behind the last line, one after the other; and the last four, with `SameName` once more,
 /// where a job is bound to metadata.
 #[derive(Clone, Copy, Debug, PartialEq, Eq)]
 pub enum JobWhy {
@@ -35,6 +35,8 @@ pub enum JobWhy {
     OtherResponse,
     /// The number is that of no table.
     NoSuchTable,
+    /// The table of a depth isn't spanned by the variable.
+    NotInTable,
     /// A file to be put has the name of another one, or of a file that is read.
     SameName,
     /// The job lacks a command; the fault is given at line 0.

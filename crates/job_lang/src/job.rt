@@ -32,6 +32,8 @@ pub struct Job {
     pub certificate_line: u32,
     /// The file of the extra cells against contributors, where they are wanted; a job that rounds has none.
     pub contributors: Option<OutputLine>,
+    /// The depths of variables in tables, in the order of their lines, at most one for each variable of a table.
+    pub depths: Items<DepthLine>,
 }
 
 /// A table as a line of the job specifies it.
@@ -65,4 +67,17 @@ pub struct OutputLine {
     pub line: u32,
     /// The name of the file.
     pub file: Text,
+}
+
+/// How far down a table takes the tree of one of its variables.
+#[derive(Drop)]
+pub struct DepthLine {
+    /// The line, from 1.
+    pub line: u32,
+    /// The number of the table, from 0.
+    pub table: u32,
+    /// The name of the variable, which spans that table.
+    pub variable: Text,
+    /// The depth, 1 to 9: the steps from the total down to the last codes that the table has.
+    pub depth: u32,
 }

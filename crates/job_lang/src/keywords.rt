@@ -59,6 +59,9 @@ pub(crate) fn keyword_of(word: &[u8]) -> Option<Keyword>
     if spells(word, b"CONTRIBUTORS") {
         return Some(Keyword::Contributors);
     }
+    if spells(word, b"DEPTH") {
+        return Some(Keyword::Depth);
+    }
     None
 }
 

@@ -5,18 +5,23 @@ ghost use Rattle.job_lang.specs.FileLaws.{PutsAreNotRead, PutsAreNotNamed, PutsD
 ghost use Rattle.job_lang.specs.BindingOrder.{GivesEarliest, GivesFirstKind};
 ghost use Rattle.job_lang.specs.Meaning.{JobsAreMeant};
 ghost use Rattle.job_lang.specs.WritableJobs.{LinesAreRead, TextIsRead, IsRoundTrip, JobsAreWritable, JobsAreReadAgain};
-ghost use Rattle.job_lang.specs.Rows.{EightLines, FullText, FullLines, NameBeforeMissing, RoundedContributorsFirst, BindsInAnyOrder, CodeListMet};
+ghost use Rattle.job_lang.specs.Rows.{EightLines, FullText, FullLines, NameBeforeMissing, RoundedContributorsFirst, OutsideBeforeNames, NumbersBeforeOutside, DepthTwice, DepthFromOneToNine, BindsInAnyOrder, BindsDepths, CodeListMet};
 ghost use Rattle.job_lang.specs.BoundNames.{BoundAsNamed};
 
 /// The definitions give what worked jobs say by hand.
-#[tactic(auto, using(crate::proofs::RowsHold::eight_lines, crate::proofs::RowsHold::full_text, crate::proofs::RowsHold::full_lines, crate::proofs::RowsHold::name_before_missing, crate::proofs::RowsHold::rounded_contributors, crate::proofs::RowsHold::bindable, crate::proofs::RowsHold::code_list_met))]
+#[tactic(auto, using(crate::proofs::RowsHold::eight_lines, crate::proofs::RowsHold::full_text, crate::proofs::RowsHold::full_lines, crate::proofs::RowsHold::name_before_missing, crate::proofs::RowsHold::rounded_contributors, crate::proofs::RowsHold::outside_before_names, crate::proofs::RowsHold::numbers_before_outside, crate::proofs::RowsHold::depth_twice, crate::proofs::RowsHold::depth_range, crate::proofs::RowsHold::bindable, crate::proofs::RowsHold::binds_depths, crate::proofs::RowsHold::code_list_met))]
 pub fn worked_jobs()
     ensures eight_lines { EightLines }
     ensures full_text { FullText }
     ensures full_lines { FullLines }
     ensures name_before_missing { NameBeforeMissing }
     ensures rounded_contributors { RoundedContributorsFirst }
+    ensures outside_before_names { OutsideBeforeNames }
+    ensures numbers_before_outside { NumbersBeforeOutside }
+    ensures depth_twice { DepthTwice }
+    ensures depth_range { DepthFromOneToNine }
     ensures bindable { BindsInAnyOrder }
+    ensures binds_depths { BindsDepths }
     ensures code_list_met { CodeListMet }
 {}
 

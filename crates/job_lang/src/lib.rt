@@ -27,7 +27,7 @@ pub use binding_faults::{is_code_list, is_hierarchy_file};
 pub use bound::Bound;
 pub use cost_rule::CostKind;
 pub use faults::{Command, JobError, JobWhy};
-pub use job::{Job, OutputLine, PriorLine, TableLine};
+pub use job::{DepthLine, Job, OutputLine, PriorLine, TableLine};
 pub use laws::{
     binding_by_name, binding_order, first_fault_is_given, jobs_are_as_stated, jobs_are_read_again,
     metadata_fit, names_apart, worked_jobs,

@@ -200,6 +200,7 @@ fn command_of(said: &Instruction) -> Keyword
         Instruction::Output { .. } => Keyword::WriteTable,
         Instruction::Certificate(_) => Keyword::Certificate,
         Instruction::Contributors(_) => Keyword::Contributors,
+        Instruction::Depth { .. } => Keyword::Depth,
     }
 }
 
@@ -230,6 +231,20 @@ fn is_output_of(number: &Text, said: &Instruction) -> bool
     }
 }
 
+// Whether it is a depth of this variable in the table with these digits.
+fn is_depth_of(number: &Text, variable: &Text, said: &Instruction) -> bool
+    ensures { result ≡ statements.is_depth_of number.now variable.now said.now }
+{
+    match said {
+        Instruction::Depth {
+            number: other,
+            variable: name,
+            ..
+        } => other.equals(number) && name.equals(variable),
+        _ => false,
+    }
+}
+
 // Whether the table with these digits has an a priori file.
 fn has_prior(number: &Text, before: &[Statement]) -> bool
     ensures { result ≡ list_any (λ s. statements.is_prior_of number.now s.said) before.now }
@@ -242,6 +257,15 @@ fn has_output(number: &Text, before: &[Statement]) -> bool
     ensures { result ≡ list_any (λ s. statements.is_output_of number.now s.said) before.now }
 {
     before.iter().any(|s| is_output_of(number, &s.said))
+}
+
+// Whether this variable has a depth in the table with these digits.
+fn has_depth(number: &Text, variable: &Text, before: &[Statement]) -> bool
+    ensures { result ≡ list_any (λ s. statements.is_depth_of number.now variable.now s.said) before.now }
+{
+    before
+        .iter()
+        .any(|s| is_depth_of(number, variable, &s.said))
 }
 
 // Whether something is said by this command.
@@ -259,6 +283,11 @@ fn is_again(said: &Instruction, before: &[Statement]) -> bool
         Instruction::Table { .. } => false,
         Instruction::Prior { number, .. } => has_prior(number, before),
         Instruction::Output { number, .. } => has_output(number, before),
+        Instruction::Depth {
+            number,
+            variable,
+            ..
+        } => has_depth(number, variable, before),
         _ => has_command(command_of(said), before),
     }
 }

@@ -3,7 +3,7 @@ ghost use Rattle.std.specs.Option.{option_copied};
 ghost use Rattle.job_lang.specs.Statements as statements;
 ghost use Rattle.job_lang.specs.ClosingLooks as closing_looks;
 
-use crate::job::{OutputLine, PriorLine};
+use crate::job::{DepthLine, OutputLine, PriorLine};
 use crate::lines::is_by;
 use crate::statement::{Instruction, Keyword, Statement};
 use cost_rule::CostKind;
@@ -153,8 +153,8 @@ pub(crate) fn work_of(other: u64, statement: Option<&Statement>) -> u64
     }
 }
 
-// The place of the table with this number, from 0.
-fn table_place(number: &Text) -> u32
+/// The place of the table with this number, from 0.
+pub(crate) fn table_place(number: &Text) -> u32
     ensures { result ≡ closing_looks.table_place number.now }
 {
     match number_in(1, 8, number.as_slice()) {
@@ -202,6 +202,49 @@ pub(crate) fn priors_in(alloc: Global, all: &[Statement]) -> Result<Items<PriorL
         } = &statement.said
         {
             lines.push(prior_line(alloc, statement.line, file, number, *separator)?)?;
+        }
+    }
+    Ok(lines)
+}
+
+// A depth with its line.
+fn depth_line(
+    alloc: Global,
+    line: u32,
+    number: &Text,
+    variable: &Text,
+    depth: u32,
+) -> Result<DepthLine, Memory>
+    ensures { IfOk result (λ one. one
+        ≡ record {
+          line = line;
+          table = closing_looks.table_place number.now;
+          variable = variable.now;
+          depth = depth;
+        }) }
+{
+    let variable = variable.copy(alloc)?;
+    Ok(DepthLine {
+        line,
+        table: table_place(number),
+        variable,
+        depth,
+    })
+}
+
+/// The depths in the order of their lines.
+pub(crate) fn depths_in(alloc: Global, all: &[Statement]) -> Result<Items<DepthLine>, Memory>
+    ensures { IfOk result (λ lines. lines ≡ closing_looks.depths_in all.now) }
+{
+    let mut lines = Items::empty(alloc);
+    'all: for statement in all {
+        if let Instruction::Depth {
+            number,
+            variable,
+            depth,
+        } = &statement.said
+        {
+            lines.push(depth_line(alloc, statement.line, number, variable, *depth)?)?;
         }
     }
     Ok(lines)

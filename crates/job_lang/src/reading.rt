@@ -7,12 +7,13 @@ ghost use Rattle.job_lang.specs.Jobs.{job_of};
 ghost use Rattle.job_lang.specs.Jobs as jobs;
 ghost use Rattle.job_lang.specs.JobLimits.{IsJob};
 
-use crate::closing::{no_rounded_contributors, no_same_name, no_stray};
+use crate::closing::{no_outside, no_rounded_contributors, no_same_name, no_stray};
 use crate::faults::{Command, JobError, JobWhy};
 use crate::job::{Job, OutputLine};
 use crate::lines::read_lines;
 use crate::looked_up::{
-    cost_of, file_line, method_of, output_said, priors_in, rules_line, statement_by, work_of,
+    cost_of, depths_in, file_line, method_of, output_said, priors_in, rules_line, statement_by,
+    work_of,
 };
 use crate::statement::{Draft, Keyword, Statement};
 use sdc_base::Items;
@@ -27,16 +28,16 @@ const USUAL_NODES: u64 = 1_000_000;
 ///
 /// Lines are looked at in their order, and each for `BadLine`, `UnknownCommand`, `BadValue`, `Twice`, `TooMany` and
 /// `OtherResponse`. Where no line has a fault there follow, of a job that rounds, `BadValue` at its line of a
-/// contributors' file, then `NoSuchTable` and `SameName`, each at the first line that has it, and at line 0 `Missing`
-/// with the first command that lacks, in the order of `Command`. Nothing is kept of a job with a fault. The words are
-/// those of tau-ARGUS's batch files, but for `COST`, `STEPS`, `NODES`, `CERTIFICATE` and `CONTRIBUTORS`; the exact form,
-/// the ranges and the order of the faults are argus's own.
+/// contributors' file, then `NoSuchTable`, `NotInTable` and `SameName`, each at the first line that has it, and at line
+/// 0 `Missing` with the first command that lacks, in the order of `Command`. Nothing is kept of a job with a fault. The
+/// words are those of tau-ARGUS's batch files, but for `COST`, `STEPS`, `NODES`, `CERTIFICATE`, `CONTRIBUTORS` and
+/// `DEPTH`; the exact form, the ranges and the order of the faults are argus's own.
 ///
 /// The caller sees to it that there are fewer than `2^32` bytes, so that a line's number fits. Want of memory aside,
 /// the answer is the definition's.
 ///
-/// The cost is a look at each byte a few times, for each line one at what the lines before it say, and for each table
-/// and each file that is put one at what all lines say.
+/// The cost is a look at each byte a few times, for each line one at what the lines before it say, for each table
+/// and each file that is put one at what all lines say, and for each depth one at its table's variables.
 #[tactic(auto, unfolding(crate::specs::Jobs::job_of))]
 pub fn read_job(alloc: Global, bytes: &[u8]) -> Result<Job, JobError>
     requires { length bytes.now < 2 ^ 32 }
@@ -55,6 +56,7 @@ fn closed_job(alloc: Global, draft: Draft) -> Result<Job, JobError>
 {
     no_rounded_contributors(draft.said.as_slice())?;
     no_stray(draft.tables.as_slice().len(), draft.said.as_slice())?;
+    no_outside(draft.tables.as_slice(), draft.said.as_slice())?;
     no_same_name(draft.said.as_slice())?;
     job_made(alloc, draft)
 }
@@ -126,6 +128,7 @@ fn job_made(alloc: Global, draft: Draft) -> Result<Job, JobError>
     };
     let contributors = file_line(alloc, statement_by(Keyword::Contributors, said))?;
     let priors = priors_in(alloc, said)?;
+    let depths = depths_in(alloc, said)?;
     let cost = cost_of(statement_by(Keyword::Cost, said));
     let steps = work_of(USUAL_STEPS, statement_by(Keyword::Steps, said));
     let nodes = work_of(USUAL_NODES, statement_by(Keyword::Nodes, said));
@@ -144,5 +147,6 @@ fn job_made(alloc: Global, draft: Draft) -> Result<Job, JobError>
         certificate: certificate.file,
         certificate_line: certificate.line,
         contributors,
+        depths,
     })
 }

@@ -18,6 +18,7 @@ pub(crate) enum Keyword {
     WriteTable,
     Certificate,
     Contributors,
+    Depth,
 }
 
 /// What a line of a job says. The number of a table is kept by its digits, without zeros in front, since it may be of
@@ -47,6 +48,11 @@ pub(crate) enum Instruction {
     },
     Certificate(Text),
     Contributors(Text),
+    Depth {
+        number: Text,
+        variable: Text,
+        depth: u32,
+    },
 }
 
 /// What a line of a job says, with the line's number.

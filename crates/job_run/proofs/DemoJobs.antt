@@ -19,9 +19,10 @@ use Rattle.job_lang.specs.MethodTexts.{modular_method, method_argument}
 use Rattle.job_lang.specs.Statements.{with_table, with_statement, with_said, command_line, text_says, lines_say}
 use Rattle.job_lang.specs.MissingCommands.{outputs_from}
 use Rattle.job_lang.specs.FilesApart.{no_stray, no_same_name}
+use Rattle.job_lang.specs.SpannedDepths.{no_outside}
 use Rattle.job_lang.specs.RoundedContributors.{no_rounded_contributors}
 use Rattle.apriori.specs.Settling.{settle_of}
-use Rattle.linked_tables.specs.Tables.{book_of}
+use Rattle.linked_tables.specs.Tables.{book_with_depths}
 use Rattle.rda_meta.specs.Metadata.{meta_of}
 use Rattle.job_lang.specs.Binding.{bound_of}
 use Rattle.job_lang.specs.declared.faults.JobWhy.TheVariants.{BadValue}
@@ -61,10 +62,11 @@ demo_job = record {
   certificate = codes "demo.cert";
   certificate_line = 11;
   contributors = None;
+  depths = [];
 }
 
 job-is : job_of job_text ≡ Ok demo_job
-unfolding behind_mark quoted_at number_at digits_at end_of_tokens closing_token keyword_of word_in one_number frequency_clause clause_in clauses_in percent_clause rules_in names_up_to quoted_part table_argument file_at only_file output_argument modular_method method_argument cost_of cost_argument argument_of with_table with_statement with_said command_line text_says lines_say no_stray no_same_name no_rounded_contributors outputs_from job_made closed_job job_of
+unfolding behind_mark quoted_at number_at digits_at end_of_tokens closing_token keyword_of word_in one_number frequency_clause clause_in clauses_in percent_clause rules_in names_up_to quoted_part table_argument file_at only_file output_argument modular_method method_argument cost_of cost_argument argument_of with_table with_statement with_said command_line text_says lines_say no_stray no_outside no_same_name no_rounded_contributors outputs_from job_made closed_job job_of
 job-is = refl
 
 -- the folder holds that text
@@ -98,7 +100,7 @@ settled-inputs : (purpose : Purpose) (files : Files) (name : List ℕ) (settled 
 unfolding settled_of
 settled-inputs purpose files name settled is =
     let inputs = bind_ok (inputs_of purpose files name) _ settled is in
-    let linked = bind_ok (map_fault cells_fault (book_of inputs.0.records.trees inputs.0.described.bound.tables)) _ settled inputs.2 in
+    let linked = bind_ok (map_fault cells_fault (book_with_depths inputs.0.records.trees inputs.0.described.bound.tables)) _ settled inputs.2 in
     let priors = bind_ok (priors_of files inputs.0) _ settled linked.2 in
     let cells = bind_ok (map_fault prior_fault (settle_of inputs.0.described.job.rules (figures inputs.0) priors.0)) _ settled priors.2 in
     let fine = bind_ok (refuse fault.OutName (overwrites_job name inputs.0.described.job)) _ settled cells.2 in

@@ -8,7 +8,7 @@ use Rattle.job_lang.specs.Jobs.{job_of}
 use Rattle.job_lang.specs.declared.faults.JobWhy.TheVariants.{BadValue}
 use Rattle.job_lang.specs.declared.bound.Bound.{Bound}
 use Rattle.job_lang.specs.declared.job.Job.{Job}
-use Rattle.linked_tables.specs.Tables.{book_of}
+use Rattle.linked_tables.specs.Tables.{book_with_depths}
 use Rattle.office_io.specs.Files.{Files}
 use Rattle.rda_meta.specs.Metadata.{meta_of}
 use Rattle.rda_meta.specs.declared.meta.Meta.{Meta}
@@ -31,7 +31,7 @@ pub inputs-read : (files : Files) (name : List â„•) (settled : SettledInputs) â†
 unfolding settled_of
 inputs-read files name settled h =
     let inputs = bind_ok (inputs_of purpose.Release files name) _ settled h in
-    let linked = bind_ok (map_fault cells_fault (book_of inputs.0.records.trees inputs.0.described.bound.tables)) _ settled inputs.2 in
+    let linked = bind_ok (map_fault cells_fault (book_with_depths inputs.0.records.trees inputs.0.described.bound.tables)) _ settled inputs.2 in
     let priors = bind_ok (priors_of files inputs.0) _ settled linked.2 in
     let cells = bind_ok (settled_cells inputs.0 priors.0) _ settled priors.2 in
     let fine = bind_ok (refuse fault.OutName (overwrites_job name inputs.0.described.job)) _ settled cells.2 in

@@ -48,7 +48,7 @@ use Rattle.job_lang.proofs.PutsApart.{differ}
 use Rattle.job_lang.specs.FileLaws.{puts_of as names_put}
 use Rattle.job_lang.specs.declared.job.OutputLine.{OutputLine}
 use Rattle.job_lang.specs.declared.job.PriorLine.{PriorLine}
-use Rattle.linked_tables.specs.Tables.{book_of}
+use Rattle.linked_tables.specs.Tables.{book_with_depths}
 use Rattle.office_io.specs.Files.{Files}
 use Rattle.office_io.specs.Shelves.{ShelfState}
 use Rattle.office_io.specs.Trays.{TrayState}
@@ -99,7 +99,7 @@ are-read : (files : Files) (name : List ℕ) (settled : SettledInputs) → settl
 unfolding settled_of
 are-read files name settled h =
     let inputs = bind_ok (inputs_of purpose.Release files name) _ settled h in
-    let linked = bind_ok (map_fault cells_fault (book_of inputs.0.records.trees inputs.0.described.bound.tables)) _ settled inputs.2 in
+    let linked = bind_ok (map_fault cells_fault (book_with_depths inputs.0.records.trees inputs.0.described.bound.tables)) _ settled inputs.2 in
     let priors = bind_ok (priors_of files inputs.0) _ settled linked.2 in
     let own = bind_ok (settled_cells inputs.0 priors.0) _ settled priors.2 in
     let fine = bind_ok (refuse fault.OutName (overwrites_job name inputs.0.described.job)) _ settled own.2 in

@@ -28,6 +28,7 @@ use Rattle.linked_tables.specs.BookCells.{cells as cells_in, IsBook}
 use Rattle.linked_tables.specs.declared.mark.Mark.{Mark}
 use Rattle.modular_plan.specs.Plans.{trail_of}
 use Rattle.sdc_base.specs.Truths.{IsTruth}
+use Rattle.sdc_base.specs.declared.dimension.Dimension.{Dimension}
 use Rattle.release_writer.specs.ShownCells.{CanBeShown}
 use Rattle.release_writer.specs.declared.shown.Shown.TheVariants as shown
 use Rattle.repair.specs.HidingOrder.{Case, protected_case, prices_of}
@@ -59,7 +60,7 @@ pub signs-for : (settled : SettledInputs) (job : ClassifiedJob) (system : System
 signs-for settled job system shape is_job is_book is_system =
     one_or_two_way_has_signs job.book system
     (subst (λ (trees : List Tree). IsOneOrTwoWay trees job.book.tables) (sym is_job.book.trees)
-    (subst (λ (tables : List (List ℕ)). IsOneOrTwoWay settled.inputs.records.trees tables) (sym is_job.book.tables) shape)) is_book is_system
+    (subst (λ (tables : List (List Dimension)). IsOneOrTwoWay settled.inputs.records.trees tables) (sym is_job.book.tables) shape)) is_book is_system
 
 -- what protecting the cells of a job comes to is what its settled inputs come to
 pub protection-for : (settled : SettledInputs) (job : ClassifiedJob) (system : System) (protection : ProtectionOutcome) → job_base job.described ≡ None → IsSettledOf settled job → IsBook job.book → IsSystemOf job.book system
@@ -153,7 +154,7 @@ numbers-are settled job all count primary is counted same primaries =
     ∙ ap (λ (n : ℕ). summary (length settled.inputs.records.rows) n job.described.meta.passed_over count primary 0) is.skipped
     ∙ ap (λ (d : DescribedJob). summary (length settled.inputs.records.rows) settled.inputs.records.skipped d.meta.passed_over count primary 0) is.described
     ∙ ap (λ (n : ℕ). summary (length settled.inputs.records.rows) settled.inputs.records.skipped settled.inputs.described.meta.passed_over n primary 0)
-    (counted ∙ ap (λ (trees : List Tree). length (cells_of trees job.book.tables)) is.book.trees ∙ ap (λ (tables : List (List ℕ)). length (cells_of settled.inputs.records.trees tables)) is.book.tables)
+    (counted ∙ ap (λ (trees : List Tree). length (cells_of trees job.book.tables)) is.book.trees ∙ ap (λ (tables : List (List Dimension)). length (cells_of settled.inputs.records.trees tables)) is.book.tables)
     ∙ ap (λ (n : ℕ). summary (length settled.inputs.records.rows) settled.inputs.records.skipped settled.inputs.described.meta.passed_over (length (cells settled.inputs)) n 0)
     (primaries ∙ ap (λ (cs : List Cell). length (filter (λ (cell : Cell). is_primary cell.kind) cs)) same ∙ as-many-primary job.cells ∙ ap (λ (cs : List SettledCell). length (filter (λ (cell : SettledCell). is_primary cell.kind) cs)) is.cells)
 

@@ -17,6 +17,7 @@ use Rattle.modular_plan.specs.Plans.{IsSameButHidden}
 use Rattle.tabulate.specs.TabulatedMarks.{AreTabulated, TellsOf}
 use Rattle.attackers.specs.Alone.{TellFrequencies}
 use Rattle.sdc_base.specs.Sums.{freq}
+use Rattle.sdc_base.specs.declared.dimension.Dimension.{Dimension}
 use Rattle.job_lang.specs.declared.job.TableLine.{TableLine}
 use Rattle.job_lang.specs.JobLimits.{HasVariables}
 use Rattle.job_inputs.specs.SoundJobs.{IsSoundJob}
@@ -111,13 +112,13 @@ by-place P [] all k d within = absurd (omega (arith, within))
 by-place P (x ∷ xs) all zero d within = all.0
 by-place P (x ∷ xs) all (suc k) d within = by-place P xs all.1 k d (omega (arith, within))
 
-each-narrow : (tables : List (List ℕ)) (lines : List TableLine) → map (λ (places : List ℕ). length places) tables ≡ map (λ (t : TableLine). length t.variables) lines → AllByRecursion HasVariables lines
-    → AllByRecursion (λ (table : List ℕ). (1 ≤ length table) × (length table ≤ 8)) tables
+each-narrow : (tables : List (List Dimension)) (lines : List TableLine) → map (λ (places : List Dimension). length places) tables ≡ map (λ (t : TableLine). length t.variables) lines → AllByRecursion HasVariables lines
+    → AllByRecursion (λ (table : List Dimension). (1 ≤ length table) × (length table ≤ 8)) tables
 each-narrow [] lines same all = tt
 each-narrow (table ∷ tables) [] same all = absurd cc
 each-narrow (table ∷ tables) (line ∷ lines) same all =
     let here : length table ≡ length line.variables = cc in
-    let rest : map (λ (places : List ℕ). length places) tables ≡ map (λ (t : TableLine). length t.variables) lines = cc in
+    let rest : map (λ (places : List Dimension). length places) tables ≡ map (λ (t : TableLine). length t.variables) lines = cc in
     ((omega (arith, here, all.0.0), omega (arith, here, all.0.1)), each-narrow tables lines rest all.1)
 
 pub narrow : (described : DescribedJob) (book : BookView) → IsSoundJob described → IsReadyFor described book → AreNarrow book.tables

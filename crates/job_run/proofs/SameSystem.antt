@@ -1,11 +1,12 @@
 -- The inputs of a job have one system: what is a rounding for one of it is one for another.
-use Rattle.std.proofs.Common.{◌≡◌, ℕ, List, [], ◌∷◌, length, map, arith, ap, sym, subst, ◌∙◌, ℤ, pos, ◌-ℤ◌}
+use Rattle.std.proofs.Common.{◌≡◌, List, [], ◌∷◌, length, map, arith, ap, sym, subst, ◌∙◌, ℤ, pos, ◌-ℤ◌}
 use Rattle.std.proofs.lemmas.List.Elements.{All-cons, All-head, All-tail}
 use Rattle.sdc_base.specs.Relations.{Sum, relations_among}
 use Rattle.sdc_base.specs.Roundings.{IsRounding}
 use Rattle.sdc_base.specs.Systems.{Numbers, HoldOn, form, number_at}
 use Rattle.sdc_base.specs.Totals.{sum_of}
 use Rattle.sdc_base.specs.Trees.{Tree}
+use Rattle.sdc_base.specs.declared.dimension.Dimension.{Dimension}
 use Rattle.sdc_base.specs.declared.relation.Relation.{Relation}
 use Rattle.sdc_base.specs.declared.system.System.{System}
 use Rattle.relations.specs.Holding.{sum_in}
@@ -49,7 +50,7 @@ pub its-relations : (inputs : Inputs) (system : System) → IsSystemIn inputs sy
 its-relations inputs system is =
     is.2.relations
     ∙ ap (λ (trees : List Tree). relations_among trees (is.0).tables) is.1.trees
-    ∙ ap (λ (tables : List (List ℕ)). relations_among inputs.records.trees tables) is.1.tables
+    ∙ ap (λ (tables : List (List Dimension)). relations_among inputs.records.trees tables) is.1.tables
 
 -- what is a rounding for a system of the inputs is one for any other
 pub rounding-elsewhere : (inputs : Inputs) (one other : System) (truths : List ℤ) (base : ℤ) (values : List ℤ) → IsSystemIn inputs one → IsSystemIn inputs other → IsRounding one truths base values → IsRounding other truths base values

@@ -13,6 +13,7 @@ use Rattle.sdc_base.specs.RuleLevels.{keep_of}
 use Rattle.sdc_base.specs.Sums.{truth}
 use Rattle.sdc_base.specs.TableText.{line_text, codes_of_place, shown_text, table_text}
 use Rattle.sdc_base.specs.Trees.{Tree}
+use Rattle.sdc_base.specs.declared.dimension.Dimension.{Dimension}
 use Rattle.sdc_base.specs.declared.rows.Row.{Row}
 use Rattle.linked_tables.proofs.Finding.{named-found, found-name, place-named}
 use Rattle.linked_tables.specs.BookViews.{BookView}
@@ -47,7 +48,7 @@ same-lines f g (x ∷ xs) same =
     ap (λ (t : List ℕ). t ++ flat_map f xs) (same x here) ∙ ap (λ (t : List ℕ). g x ++ t) later
 
 -- a table's text rests on what the cells of its places show
-pub same-text : (trees : List Tree) (table : List ℕ) (header : List (List ℕ)) (decimals : ℕ) (one other : Name → Option ℤ)
+pub same-text : (trees : List Tree) (table : List Dimension) (header : List (List ℕ)) (decimals : ℕ) (one other : Name → Option ℤ)
     → ((place : List ℕ) → is_place_in (trees_of trees table) place ≡ true → one (name_of (length trees) table place) ≡ other (name_of (length trees) table place))
     → table_text trees table header decimals one ≡ table_text trees table header decimals other
 same-text trees table header decimals one other same =
@@ -64,7 +65,7 @@ some-is None h = absurd cc
 some-is (Some k) h = (k, refl)
 
 -- what a release shows for a name, by trees and tables
-abbrev open_by : List Tree → List (List ℕ) → List Row → List Bool → Name → Option ℤ
+abbrev open_by : List Tree → List (List Dimension) → List Row → List Bool → Name → Option ℤ
 open_by trees tables rows flags name = cond (option_map_or (is_hidden flags) (number_among (cells_of trees tables) name) false) None (Some (truth trees name rows))
 
 -- a cell of the book shows its truth over the records, unless it is hidden
@@ -80,7 +81,7 @@ shows-right book rows keep scale flags name told many there =
     ∙ ap (λ (t : ℤ). cond (is_hidden flags found.0) None (Some t)) tells.truth_is
     ∙ sym (ap (λ (o : Option ℕ). cond (option_map_or (is_hidden flags) o false) None (Some (truth book.trees name rows))) found.1)
 
-get-at : (xs : List (List ℕ)) (k : ℕ) → k < length xs → slice_get xs k ≡ Some (slice_index_or xs k [])
+get-at : (xs : List (List Dimension)) (k : ℕ) → k < length xs → slice_get xs k ≡ Some (slice_index_or xs k [])
 get-at [] k h = absurd (omega (arith, h))
 get-at (x ∷ xs) zero h = refl
 get-at (x ∷ xs) (suc k) h = get-at xs k (omega (arith, h))
@@ -89,14 +90,14 @@ get-at (x ∷ xs) (suc k) h = get-at xs k (omega (arith, h))
 shown-same : (inputs : Inputs) (book : BookView) (flags : List Bool) (name : Name) → IsBookOf inputs book → open_by book.trees book.tables inputs.records.rows flags name ≡ shown_in inputs flags name
 shown-same inputs book flags name is =
     ap (λ (trees : List Tree). open_by trees book.tables inputs.records.rows flags name) is.trees
-    ∙ ap (λ (tables : List (List ℕ)). open_by inputs.records.trees tables inputs.records.rows flags name) is.tables
+    ∙ ap (λ (tables : List (List Dimension)). open_by inputs.records.trees tables inputs.records.rows flags name) is.tables
 
 -- a table by the trees and tables of the inputs
 table-same : (inputs : Inputs) (book : BookView) (shown : Name → Option ℤ) (t : ℕ) (header : List (List ℕ)) → IsBookOf inputs book
     → table_text book.trees (slice_index_or book.tables t []) header inputs.described.bound.decimals shown ≡ table_of inputs shown t header
 table-same inputs book shown t header is =
     ap (λ (trees : List Tree). table_text trees (slice_index_or book.tables t []) header inputs.described.bound.decimals shown) is.trees
-    ∙ ap (λ (tables : List (List ℕ)). table_text inputs.records.trees (slice_index_or tables t []) header inputs.described.bound.decimals shown) is.tables
+    ∙ ap (λ (tables : List (List Dimension)). table_text inputs.records.trees (slice_index_or tables t []) header inputs.described.bound.decimals shown) is.tables
 
 -- the text of a table of the book with cells hidden is that of its records
 pub hidden-shown : (inputs : Inputs) (book : BookView) (flags : List Bool) (t : ℕ) (header : List (List ℕ)) → IsBookOf inputs book → t < length book.tables
@@ -116,7 +117,7 @@ pub values-shown : (inputs : Inputs) (book : BookView) (values : List ℤ) (t : 
     → table_text book.trees (slice_index_or book.tables t []) header inputs.described.bound.decimals (λ name. option_and_then (slice_get values) (number_of book name)) ≡ table_of inputs (value_in inputs values) t header
 values-shown inputs book values t header is =
     ap (λ (trees : List Tree). table_text book.trees (slice_index_or book.tables t []) header inputs.described.bound.decimals (λ name. option_and_then (slice_get values) (number_among (cells_of trees book.tables) name))) is.trees
-    ∙ ap (λ (tables : List (List ℕ)). table_text book.trees (slice_index_or book.tables t []) header inputs.described.bound.decimals (λ name. option_and_then (slice_get values) (number_among (cells_of inputs.records.trees tables) name))) is.tables
+    ∙ ap (λ (tables : List (List Dimension)). table_text book.trees (slice_index_or book.tables t []) header inputs.described.bound.decimals (λ name. option_and_then (slice_get values) (number_among (cells_of inputs.records.trees tables) name))) is.tables
     ∙ table-same inputs book (value_in inputs values) t header is
 
 -- the text of a table of the book is that of the inputs

@@ -15,6 +15,7 @@ use Rattle.sdc_base.specs.Roundings.{IsAdjacent, IsRounding}
 use Rattle.sdc_base.specs.Systems.{Numbers, number_at}
 use Rattle.sdc_base.specs.Totals.{sum_of}
 use Rattle.sdc_base.specs.Trees.{Tree}
+use Rattle.sdc_base.specs.declared.dimension.Dimension.{Dimension}
 use Rattle.sdc_base.specs.declared.relation.Relation.{Relation}
 use Rattle.sdc_base.specs.declared.system.System.{System}
 use Rattle.relations.specs.Holding.{sum_in}
@@ -119,7 +120,7 @@ of-some P f start (suc n) (suc k) x inside is all =
     of-some P f (start + 1) n k x (omega (arith, inside)) (ap f there ∙ is) (rest-of P (f start) (filter_map f (range_with_len (start + 1) n)) all)
 
 -- what holds of all relations holds of that of a cell for a variable
-pub of-relation : (P : Sum → Type 0) (trees : List Tree) (tables : List (List ℕ)) (cell : ℕ) (name : Name) (variable : ℕ) (sum : Sum) → slice_get (cells_of trees tables) cell ≡ Some name → variable < length trees
+pub of-relation : (P : Sum → Type 0) (trees : List Tree) (tables : List (List Dimension)) (cell : ℕ) (name : Name) (variable : ℕ) (sum : Sum) → slice_get (cells_of trees tables) cell ≡ Some name → variable < length trees
     → relation_for trees tables cell name variable ≡ Some sum → All P (relations_among trees tables) → P sum
 of-relation P trees tables cell name variable sum at known is all =
     let names : List Name = cells_of trees tables in
@@ -142,7 +143,7 @@ some-codes : (codes : List ℕ) → codes ≢ [] → not (length codes == 0) ≡
 some-codes [] some = absurd (some refl)
 some-codes (code ∷ codes) some = let more : (suc (length codes) == 0) ≡ false = grind arith in ap not more
 
-pub has-relation : (trees : List Tree) (tables : List (List ℕ)) (cell : ℕ) (name : Name) (variable : ℕ) → is_spanned trees tables name variable ≡ true → codes_below trees name variable ≢ []
+pub has-relation : (trees : List Tree) (tables : List (List Dimension)) (cell : ℕ) (name : Name) (variable : ℕ) → is_spanned trees tables name variable ≡ true → codes_below trees name variable ≢ []
     → relation_for trees tables cell name variable ≡ Some (cell, parts_among (cells_of trees tables) name variable (codes_below trees name variable))
 has-relation trees tables cell name variable spanned some = by (is_spanned trees tables name variable) (not (length codes == 0)) spanned (some-codes codes some)
   where
@@ -157,7 +158,7 @@ has-relation trees tables cell name variable spanned some = by (is_spanned trees
     by true false spanned any = absurd cc
     by false b spanned any = absurd cc
 
-pub shows-sums : (trees : List Tree) (tables : List (List ℕ)) (truths : List ℤ) (system : System) (base : ℤ) (values : List ℤ) (name : Name) (variable : ℕ) → system.cells ≡ length (cells_of trees tables)
+pub shows-sums : (trees : List Tree) (tables : List (List Dimension)) (truths : List ℤ) (system : System) (base : ℤ) (values : List ℤ) (name : Name) (variable : ℕ) → system.cells ≡ length (cells_of trees tables)
     → map sum_in system.relations ≡ relations_among trees tables → IsRounding system truths base values
     → is_named (cells_of trees tables) name ≡ true → variable < length trees → is_spanned trees tables name variable ≡ true
     → codes_below trees name variable ≢ []

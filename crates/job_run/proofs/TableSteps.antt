@@ -3,6 +3,7 @@ use Rattle.std.proofs.Common.{◌≡◌, ℕ, zero, suc, ◌+◌, ◌<◌, ◌�
 use Rattle.std.proofs.lemmas.List.{take_all}
 use Rattle.std.specs.Prelude.{slice_index_or}
 use Rattle.sdc_base.specs.Records.{Name}
+use Rattle.sdc_base.specs.declared.dimension.Dimension.{Dimension}
 use Rattle.job_lang.specs.declared.job.OutputLine.{OutputLine}
 use Rattle.job_lang.specs.declared.job.TableLine.{TableLine}
 use Rattle.job_inputs.specs.Tables.{names_of}
@@ -51,11 +52,11 @@ same-length f [] = refl
 same-length f (x ∷ xs) = ap suc (same-length f xs)
 
 -- as many of these as of those
-pub as-many : (tables : List (List ℕ)) (lines : List TableLine) → map (λ (places : List ℕ). length places) tables ≡ map (λ (t : TableLine). length t.variables) lines → length tables ≡ length lines
-as-many tables lines same = sym (same-length (λ (places : List ℕ). length places) tables) ∙ ap length same ∙ same-length (λ (t : TableLine). length t.variables) lines
+pub as-many : (tables : List (List Dimension)) (lines : List TableLine) → map (λ (places : List Dimension). length places) tables ≡ map (λ (t : TableLine). length t.variables) lines → length tables ≡ length lines
+as-many tables lines same = sym (same-length (λ (places : List Dimension). length places) tables) ∙ ap length same ∙ same-length (λ (t : TableLine). length t.variables) lines
 
 -- a table has as many places as its line names
-pub same-width : (tables : List (List ℕ)) (lines : List TableLine) (k : ℕ) (line : TableLine) → map (λ (places : List ℕ). length places) tables ≡ map (λ (t : TableLine). length t.variables) lines → k < length lines → line ≡ slice_index_or lines k line
+pub same-width : (tables : List (List Dimension)) (lines : List TableLine) (k : ℕ) (line : TableLine) → map (λ (places : List Dimension). length places) tables ≡ map (λ (t : TableLine). length t.variables) lines → k < length lines → line ≡ slice_index_or lines k line
     → length line.variables ≡ length (slice_index_or tables k [])
 same-width tables [] k line same inside is = absurd (omega (arith, inside))
 same-width [] (first ∷ lines) k line same inside is = absurd cc
@@ -63,5 +64,5 @@ same-width (places ∷ tables) (first ∷ lines) zero line same inside is =
     let heads : length places ≡ length first.variables = cc in
     ap (λ (l : TableLine). length l.variables) is ∙ sym heads
 same-width (places ∷ tables) (first ∷ lines) (suc k) line same inside is =
-    let tails : map (λ (places : List ℕ). length places) tables ≡ map (λ (t : TableLine). length t.variables) lines = cc in
+    let tails : map (λ (places : List Dimension). length places) tables ≡ map (λ (t : TableLine). length t.variables) lines = cc in
     same-width tables lines k line tails (omega (arith, inside)) is

@@ -9,6 +9,7 @@ use Rattle.sdc_base.specs.Relations.{Sum, codes_below, is_spanned, parts_among, 
 use Rattle.sdc_base.specs.Systems.{Numbers}
 use Rattle.sdc_base.specs.Totals.{sum_of}
 use Rattle.sdc_base.specs.Trees.{Tree}
+use Rattle.sdc_base.specs.declared.dimension.Dimension.{Dimension}
 use Rattle.job_run.proofs.ShownLaws.{has-relation, of-relation}
 
 -- ---- all that numbers give
@@ -36,7 +37,7 @@ abbrev pub Adds : Numbers → Sum → Type 0
 Adds numbers sum = numbers sum.0 ≡ sum_of numbers sum.1
 
 -- each cell that has parts is their sum
-abbrev pub TotalsAdd : List Tree → List (List ℕ) → Numbers → Type 0
+abbrev pub TotalsAdd : List Tree → List (List Dimension) → Numbers → Type 0
 TotalsAdd trees tables numbers =
     (number : ℕ) (name : Name) (variable : ℕ) → slice_get (cells_of trees tables) number ≡ Some name
     → variable < length trees → is_spanned trees tables name variable ≡ true → codes_below trees name variable ≢ []
@@ -47,7 +48,7 @@ codes-there [] any is = absurd cc
 codes-there (code ∷ codes) any is = absurd cc
 
 -- a relation adds up where its cell, which has parts, is their sum
-relation-adds : (numbers : Numbers) (trees : List Tree) (tables : List (List ℕ)) (cell : ℕ) (name : Name) (variable : ℕ) (sum : Sum) → relation_for trees tables cell name variable ≡ Some sum
+relation-adds : (numbers : Numbers) (trees : List Tree) (tables : List (List Dimension)) (cell : ℕ) (name : Name) (variable : ℕ) (sum : Sum) → relation_for trees tables cell name variable ≡ Some sum
     → (is_spanned trees tables name variable ≡ true → codes_below trees name variable ≢ [] → numbers cell ≡ sum_of numbers (parts_among (cells_of trees tables) name variable (codes_below trees name variable))) → Adds numbers sum
 relation-adds numbers trees tables cell name variable sum is adds = by (is_spanned trees tables name variable) (not (length codes == 0)) refl refl is
   where
@@ -62,14 +63,14 @@ relation-adds numbers trees tables cell name variable sum is adds = by (is_spann
     by true false spanned any gives = absurd cc
     by false b spanned any gives = absurd cc
 
-pub totals-sums : (trees : List Tree) (tables : List (List ℕ)) (numbers : Numbers) → TotalsAdd trees tables numbers → All (Adds numbers) (relations_among trees tables)
+pub totals-sums : (trees : List Tree) (tables : List (List Dimension)) (numbers : Numbers) → TotalsAdd trees tables numbers → All (Adds numbers) (relations_among trees tables)
 totals-sums trees tables numbers adds =
     let names : List Name = cells_of trees tables in
     all-from (Adds numbers) (λ c. relations_for trees tables c (slice_index_or names c [])) 0 (length names)
     (λ c inside. all-some (Adds numbers) (relation_for trees tables c (slice_index_or names c [])) 0 (length trees)
     (λ v sum known is. relation-adds numbers trees tables c (slice_index_or names c []) v sum is (adds c (slice_index_or names c []) v (read-at names c [] (omega (arith, inside))) (omega (arith, known)))))
 
-pub sums-totals : (trees : List Tree) (tables : List (List ℕ)) (numbers : Numbers) → All (Adds numbers) (relations_among trees tables) → TotalsAdd trees tables numbers
+pub sums-totals : (trees : List Tree) (tables : List (List Dimension)) (numbers : Numbers) → All (Adds numbers) (relations_among trees tables) → TotalsAdd trees tables numbers
 sums-totals trees tables numbers all number name variable at known spanned some =
     of-relation (Adds numbers) trees tables number name variable (number, parts_among (cells_of trees tables) name variable (codes_below trees name variable)) at known
     (has-relation trees tables number name variable spanned some) all

@@ -22,8 +22,8 @@ CellsShowAdjacent =
 abbrev pub number_shown : Inputs → List ℤ → Name → ℤ
 number_shown inputs values name = unwrap_or (value_in inputs values name) (pos 0)
 
--- A cell of a table that spans a variable, with codes right below its own, shows the sum of what the cells with one of
--- these in its place show.
+-- A cell of a table that spans a variable and goes below the cell's code, with codes right below that one, shows the sum
+-- of what the cells with one of these in its place show.
 abbrev pub ShownMarginsAddUp : Type 0
 ShownMarginsAddUp =
     (inputs : Inputs) (base : ℤ) (values : List ℤ) (name : Name) (variable : ℕ) → IsRoundingFor inputs base values

@@ -67,8 +67,9 @@ pub record IsPermittedSet (settled : SettledInputs) (hidden : List Bool) : Type 
 
 -- ---- what a reader can't rule out
 
--- Amounts of the cells add up. Where some table has a cell and spans a variable, and there are codes right below the
--- cell's, the cell's amount is the sum of those of its parts, the cells with one of these codes in place of its own.
+-- Amounts of the cells add up. Where some table has a cell, spans a variable and goes below the cell's code for it, and
+-- there are codes right below that one, the cell's amount is the sum of those of its parts, the cells with one of these
+-- codes in place of its own.
 abbrev pub AddUp : Inputs → Numbers → Type 0
 AddUp inputs numbers =
     (number : ℕ) (name : Name) (variable : ℕ) → slice_get (cells inputs) number ≡ Some name
@@ -84,9 +85,9 @@ pub record IsWithinStatedBounds (cell : SettledCell) (den move : ℤ) : Type 0 w
   pub at_least : (den *ℤ cell.low) ≤ℤ (den *ℤ cell.truth +ℤ move)
   pub at_most : (high : ℤ) → cell.high ≡ Some high → (den *ℤ cell.truth +ℤ move) ≤ℤ (den *ℤ high)
 
--- A complete table is a value for each cell, of all tables, that a reader who knows the bounds can't rule out: no shown
--- cell moves; moves add up, and so the values do, since the truths do; and each value, which needn't be whole, is within
--- its cell's bounds.
+-- A complete table is a value for each cell, of all tables, that a reader can't rule out who knows three things: what
+-- is shown, that the cells of one variable's tree add up, and the bounds: no shown cell moves; moves add up, and so the
+-- values do, since the truths do; and each value, which needn't be whole, is within its cell's bounds.
 pub record IsCompleteTable (settled : SettledInputs) (hidden : List Bool) (den : ℤ) (moves : Numbers) : Type 0 where
   pub positive : pos 1 ≤ℤ den
   pub shown_stay : (number : ℕ) (cell : SettledCell) → slice_get settled.cells number ≡ Some cell

@@ -49,7 +49,7 @@ pub record IsRoundingFor (inputs : Inputs) (base : ℤ) (values : List ℤ) : Ty
   pub system_is : IsSystemIn inputs system
   pub rounding : IsRounding system (truths_in inputs) base values
 
--- the job has one table of one variable, or of two flat ones: there is always a rounding then
+-- the job has one table of one variable, or of two that are flat down to its depths: there is always a rounding then
 abbrev pub IsAlwaysRounded : Inputs → Type 0
 IsAlwaysRounded inputs = IsOneOrTwoWay inputs.records.trees inputs.described.bound.tables
 

@@ -4,8 +4,8 @@ ghost use Rattle.job_run.specs.Laws.{CellsShowAdjacent, ShownMarginsAddUp};
 ghost use Rattle.job_run.specs.SecondRuns.{SecondRunsComplete};
 
 /// Where values are a rounding of a job's cells, each cell has a multiple of the base less than one base from the weighted
-/// sum of its records; and a cell of a table that spans a variable, with codes right below its own, has the sum of what
-/// the cells with one of these codes in its place have.
+/// sum of its records; and a cell of a table that spans a variable and goes below the cell's code, with codes right below
+/// that one, has the sum of what the cells with one of these codes in its place have.
 pub fn rounded_tables_add_up()
     ensures adjacent { CellsShowAdjacent }
     ensures margins { ShownMarginsAddUp }

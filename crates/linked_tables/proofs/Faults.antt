@@ -3,6 +3,7 @@ use Rattle.std.proofs.Common.{◌≡◌, ℕ, ◌≤◌, nat_lt, true, false, Li
 use Rattle.std.proofs.lemmas.Bool.Decides.{nat_tests}
 use Rattle.sdc_base.specs.Records.{Name}
 use Rattle.sdc_base.specs.Answers.{Fails}
+use Rattle.sdc_base.specs.declared.dimension.Dimension.{Dimension}
 use Rattle.linked_tables.specs.declared.book_fault.BookFault.{BookFault}
 use Rattle.linked_tables.specs.declared.book_fault.BookFault.TheVariants as fault
 use Rattle.linked_tables.specs.Tables.{most_cells, has_unknown, has_twice, or_later, variables_fault, unless_fault}
@@ -51,7 +52,7 @@ capped-Ok t names others h =
     ] refl h
 
 -- the variables of a table without a fault
-pub sound-table : (variables t : ℕ) (table : List ℕ) → variables_fault variables t table ≡ None → IsTable variables table
+pub sound-table : (variables t : ℕ) (table : List Dimension) → variables_fault variables t table ≡ None → IsTable variables table
 sound-table variables t table none =
     elim (has_unknown variables table) as (λ b. has_unknown variables table ≡ b → (if b then Some (fault.NoSuchVariable t) else if has_twice table then Some (fault.TwiceInTable t) else None) ≡ None → IsTable variables table) [
       | true ↦ λ is none. cc

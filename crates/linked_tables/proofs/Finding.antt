@@ -11,6 +11,7 @@ use Rattle.sdc_base.specs.Cells.{cells_of, is_named, named_by, name_of, places, 
 use Rattle.sdc_base.specs.CellOrder.{is_place_in}
 use Rattle.sdc_base.proofs.Places.{places_are_lexicographic}
 use Rattle.sdc_base.proofs.FirstNames.{names_are_first}
+use Rattle.sdc_base.specs.declared.dimension.Dimension.{Dimension}
 use Rattle.linked_tables.specs.BookViews.{BookView}
 use Rattle.linked_tables.specs.BookCells.{cells, name_in_table, is_in, number_of, is_place_of, name_at, cell_at}
 
@@ -49,7 +50,7 @@ found-name (other ∷ names) name k h =
 
 -- ---- each place of a table is named
 
-pub named-map : (variables : ℕ) (table : List ℕ) (found : List (List ℕ)) (place : List ℕ) → is_named found place ≡ true → is_named (map (name_of variables table) found) (name_of variables table place) ≡ true
+pub named-map : (variables : ℕ) (table : List Dimension) (found : List (List ℕ)) (place : List ℕ) → is_named found place ≡ true → is_named (map (name_of variables table) found) (name_of variables table place) ≡ true
 named-map variables table [] place h = cc
 named-map variables table (other ∷ found) place h =
     elim (bytes_eq place other) as (λ b. bytes_eq place other ≡ b → (b || is_named found place) ≡ true → (bytes_eq (name_of variables table place) (name_of variables table other) || is_named (map (name_of variables table) found) (name_of variables table place)) ≡ true) [
@@ -61,7 +62,7 @@ named-map variables table (other ∷ found) place h =
     either true = refl
     either false = refl
 
-named-table : (trees : List Tree) (tables : List (List ℕ)) (t : ℕ) (table : List ℕ) (name : Name) → slice_get tables t ≡ Some table → is_named (named_by trees table) name ≡ true → is_named (flat_map (named_by trees) tables) name ≡ true
+named-table : (trees : List Tree) (tables : List (List Dimension)) (t : ℕ) (table : List Dimension) (name : Name) → slice_get tables t ≡ Some table → is_named (named_by trees table) name ≡ true → is_named (flat_map (named_by trees) tables) name ≡ true
 named-table trees [] t table name at h = cc
 named-table trees (first ∷ tables) zero table name at h =
     let same : first ≡ table = cc in
@@ -76,7 +77,7 @@ named-table trees (first ∷ tables) (suc t) table name at h =
     either false = refl
 
 -- a place of a table has a cell
-pub place-named : (trees : List Tree) (tables : List (List ℕ)) (t : ℕ) (table place : List ℕ) → slice_get tables t ≡ Some table → is_place_in (trees_of trees table) place ≡ true
+pub place-named : (trees : List Tree) (tables : List (List Dimension)) (t : ℕ) (table : List Dimension) (place : List ℕ) → slice_get tables t ≡ Some table → is_place_in (trees_of trees table) place ≡ true
     → is_named (cells_of trees tables) (name_of (length trees) table place) ≡ true
 place-named trees tables t table place at inside =
     names_are_first.all (flat_map (named_by trees) tables) (name_of (length trees) table place)
@@ -88,11 +89,11 @@ place-named trees tables t table place at inside =
 pub cell-found : (book : BookView) (t : ℕ) (place : List ℕ) → is_some (cell_at book t place) ≡ is_place_of book t place
 cell-found book t place = by_table (slice_get book.tables t) refl
   where
-    inside : (table : List ℕ) → slice_get book.tables t ≡ Some table → (b : Bool) → is_in book table place ≡ b → is_some (if b then number_of book (name_in_table book table place) else None) ≡ b
+    inside : (table : List Dimension) → slice_get book.tables t ≡ Some table → (b : Bool) → is_in book table place ≡ b → is_some (if b then number_of book (name_in_table book table place) else None) ≡ b
     inside table at true is = named-found (cells book) (name_in_table book table place) ∙ place-named book.trees book.tables t table place at is
     inside table at false is = refl
 
-    by_table : (found : Option (List ℕ)) → slice_get book.tables t ≡ found
+    by_table : (found : Option (List Dimension)) → slice_get book.tables t ≡ found
         → is_some (option_and_then (λ table. if is_in book table place then number_of book (name_in_table book table place) else None) found) ≡ option_map_or (λ table. is_in book table place) found false
     by_table None at = refl
     by_table (Some table) at = inside table at (is_in book table place) refl
@@ -101,11 +102,11 @@ cell-found book t place = by_table (slice_get book.tables t) refl
 pub cell-named : (book : BookView) (t : ℕ) (place : List ℕ) (cell : ℕ) → cell_at book t place ≡ Some cell → slice_get (cells book) cell ≡ Some (name_at book t place)
 cell-named book t place cell = by_table (slice_get book.tables t)
   where
-    inside : (table : List ℕ) (b : Bool) → (if b then number_of book (name_in_table book table place) else None) ≡ Some cell → slice_get (cells book) cell ≡ Some (name_in_table book table place)
+    inside : (table : List Dimension) (b : Bool) → (if b then number_of book (name_in_table book table place) else None) ≡ Some cell → slice_get (cells book) cell ≡ Some (name_in_table book table place)
     inside table true is = found-name (cells book) (name_in_table book table place) cell is
     inside table false is = cc
 
-    by_table : (found : Option (List ℕ)) → option_and_then (λ table. if is_in book table place then number_of book (name_in_table book table place) else None) found ≡ Some cell
+    by_table : (found : Option (List Dimension)) → option_and_then (λ table. if is_in book table place then number_of book (name_in_table book table place) else None) found ≡ Some cell
         → slice_get (cells book) cell ≡ Some (option_map_or (λ table. name_in_table book table place) found [])
     by_table None is = cc
     by_table (Some table) is = inside table (is_in book table place) is

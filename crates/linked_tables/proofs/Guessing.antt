@@ -1,5 +1,5 @@
 -- A name that stands at a number is found there.
-use Rattle.std.proofs.Common.{◌≡◌, ℕ, zero, suc, ◌+◌, Bool, true, false, List, [], ◌∷◌, slice_get, bytes_eq, None, Some, refl, ap, sym, ◌∙◌, subst, add-one}
+use Rattle.std.proofs.Common.{◌≡◌, ℕ, zero, suc, Bool, true, false, List, [], ◌∷◌, slice_get, bytes_eq, Some, refl, ap, sym, ◌∙◌, subst, add-one}
 use Rattle.std.specs.List.{IsDistinct, AllByRecursion}
 use Rattle.std.proofs.lemmas.Map.Keys.{IsDistinct-head, IsDistinct-tail}
 use Rattle.std.proofs.lemmas.Slice.Eq.{bytes_eq-Decides}
@@ -8,6 +8,7 @@ use Rattle.sdc_base.specs.Trees.{Tree}
 use Rattle.sdc_base.specs.Records.{Name}
 use Rattle.sdc_base.specs.Places.{first_place}
 use Rattle.sdc_base.specs.Cells.{cells_of, named_by}
+use Rattle.sdc_base.specs.declared.dimension.Dimension.{Dimension}
 use Rattle.sdc_base.proofs.FirstNames.{names_are_first}
 
 head-apart : (y x : Name) (ys : List Name) (k : ℕ) → AllByRecursion (λ other. bytes_eq y other ≡ false) ys → slice_get ys k ≡ Some x → bytes_eq y x ≡ false
@@ -35,5 +36,5 @@ found-where (first ∷ names) (suc k) name once at =
     turned true is apart = let same : bytes_eq first name ≡ true = (bytes_eq-Decides first name).1 (sym ((bytes_eq-Decides name first).0 is)) in cc
     turned false is apart = is
 
-pub guessed : (trees : List Tree) (tables : List (List ℕ)) (names : List Name) (k : ℕ) (name other : Name) → names ≡ cells_of trees tables → slice_get names k ≡ Some other → other ≡ name → first_place (bytes_eq name) (cells_of trees tables) ≡ Some k
+pub guessed : (trees : List Tree) (tables : List (List Dimension)) (names : List Name) (k : ℕ) (name other : Name) → names ≡ cells_of trees tables → slice_get names k ≡ Some other → other ≡ name → first_place (bytes_eq name) (cells_of trees tables) ≡ Some k
 guessed trees tables names k name other is at same = found-where (cells_of trees tables) k name (names_are_first.once (flat_map (named_by trees) tables)) (ap (λ ns. slice_get ns k) (sym is) ∙ at ∙ ap Some same)

@@ -7,3 +7,4 @@ pub mod TableSteps
 pub mod Sharing
 pub mod Numbers
 pub mod Guessing
+pub mod CutChildren

@@ -2,6 +2,7 @@
 use Rattle.std.proofs.Common.{◌≡◌, ℕ, ◌+◌, ◌-◌, ◌≤◌, Bool, true, false, List, [], ◌++◌, length, take, drop, slice_get, Option, None, Some, is_some, if◌then◌else◌, arith, refl, ap, sym, ◌∙◌, length-append, drop-drop}
 use Rattle.std.specs.Option.{option_and_then, option_map_or}
 use Rattle.std.proofs.lemmas.List.{append-nil, drop_all, take_all, length-take-le, length-drop}
+use Rattle.sdc_base.specs.declared.dimension.Dimension.{Dimension}
 use Rattle.linked_tables.specs.declared.mark.Mark.{Mark}
 use Rattle.linked_tables.specs.BookViews.{BookView}
 use Rattle.linked_tables.specs.BookCells.{cell_at, is_in, is_place_of, name_at, name_in_table, number_of}
@@ -13,11 +14,11 @@ use Rattle.linked_tables.proofs.Finding.{cell-found, cell-named}
 pub number-of-name : (book : BookView) (t : ℕ) (place : List ℕ) → is_place_of book t place ≡ true → cell_at book t place ≡ number_of book (name_at book t place)
 number-of-name book t place = by_table (slice_get book.tables t)
   where
-    inside : (table : List ℕ) (b : Bool) → b ≡ true → (if b then number_of book (name_in_table book table place) else None) ≡ number_of book (name_in_table book table place)
+    inside : (table : List Dimension) (b : Bool) → b ≡ true → (if b then number_of book (name_in_table book table place) else None) ≡ number_of book (name_in_table book table place)
     inside table true h = refl
     inside table false h = cc
 
-    by_table : (found : Option (List ℕ)) → option_map_or (λ table. is_in book table place) found false ≡ true
+    by_table : (found : Option (List Dimension)) → option_map_or (λ table. is_in book table place) found false ≡ true
         → option_and_then (λ table. if is_in book table place then number_of book (name_in_table book table place) else None) found ≡ number_of book (option_map_or (λ table. name_in_table book table place) found [])
     by_table None h = cc
     by_table (Some table) h = inside table (is_in book table place) h

@@ -9,24 +9,25 @@ use Rattle.sdc_base.specs.Records.{Name}
 use Rattle.sdc_base.specs.Answers.{Fails}
 use Rattle.sdc_base.specs.Cells.{cells_of, named_by, with_name}
 use Rattle.code_trees.proofs.FlatSteps.{drop-at, take-at}
+use Rattle.sdc_base.specs.declared.dimension.Dimension.{Dimension}
 use Rattle.linked_tables.specs.declared.book_fault.BookFault.{BookFault}
-use Rattle.linked_tables.specs.Tables.{most_cells, variables_fault, cells_fault, first_table_fault, or_later, unless_fault, book_of}
+use Rattle.linked_tables.specs.Tables.{most_cells, variables_fault, cells_fault, first_table_fault, or_later, unless_fault, book_with_depths}
 use Rattle.linked_tables.specs.BookCells.{IsTable}
 use Rattle.linked_tables.specs.BookKeeping.{names_within_limit}
 use Rattle.linked_tables.proofs.CellLists.{cells-more}
 use Rattle.linked_tables.proofs.Faults.{fails-first, fails-second, sound-table}
 
 -- the cells with those of a table more
-abbrev pub with_table : List Tree → List (List ℕ) → ℕ → List ℕ → List Name
+abbrev pub with_table : List Tree → List (List Dimension) → ℕ → List Dimension → List Name
 with_table trees tables t table = fold with_name (cells_of trees (take t tables)) (named_by trees table)
 
 taken : {X : Type 0} (xs : List X) (t : ℕ) → t < length xs → length (take t xs) ≡ t
 taken xs t h = length-take-le t xs (omega (arith, h))
 
-pub cells-next : (trees : List Tree) (tables : List (List ℕ)) (t : ℕ) (table : List ℕ) → slice_get tables t ≡ Some table → cells_of trees (take (t + 1) tables) ≡ with_table trees tables t table
+pub cells-next : (trees : List Tree) (tables : List (List Dimension)) (t : ℕ) (table : List Dimension) → slice_get tables t ≡ Some table → cells_of trees (take (t + 1) tables) ≡ with_table trees tables t table
 cells-next trees tables t table at = ap (cells_of trees) (take-at tables t table at) ∙ cells-more trees (take t tables) table
 
-first-step : (trees : List Tree) (tables : List (List ℕ)) (t : ℕ) (table : List ℕ) → slice_get tables t ≡ Some table
+first-step : (trees : List Tree) (tables : List (List Dimension)) (t : ℕ) (table : List Dimension) → slice_get tables t ≡ Some table
     → first_table_fault trees (take t tables) (drop t tables) ≡ or_later (or_later (variables_fault (length trees) t table) (cells_fault t (with_table trees tables t table))) (first_table_fault trees (take (t + 1) tables) (drop (t + 1) tables))
 first-step trees tables t table at =
     let number : length (take t tables) ≡ t = taken tables t (slice_get_within tables t table at) in
@@ -37,7 +38,7 @@ first-step trees tables t table at =
     ∙ ap (λ before. or_later (or_later (variables_fault (length trees) t table) (cells_fault t (with_table trees tables t table))) (first_table_fault trees before rest)) (sym (take-at tables t table at))
 
 -- a table without a fault
-pub table-next : (trees : List Tree) (tables : List (List ℕ)) (t : ℕ) (table : List ℕ) → slice_get tables t ≡ Some table → variables_fault (length trees) t table ≡ None → length (with_table trees tables t table) ≤ most_cells
+pub table-next : (trees : List Tree) (tables : List (List Dimension)) (t : ℕ) (table : List Dimension) → slice_get tables t ≡ Some table → variables_fault (length trees) t table ≡ None → length (with_table trees tables t table) ≤ most_cells
     → first_table_fault trees (take t tables) (drop t tables) ≡ first_table_fault trees (take (t + 1) tables) (drop (t + 1) tables)
 table-next trees tables t table at none few =
     let rest = first_table_fault trees (take (t + 1) tables) (drop (t + 1) tables) in
@@ -49,21 +50,21 @@ table-next trees tables t table at none few =
     fits names few = let test : nat_lt most_cells (length names) ≡ false = grind (arith, nat_tests) in rw test refl
 
 -- a table with a fault of its variables
-pub variables-stop : (trees : List Tree) (tables : List (List ℕ)) (t : ℕ) (table : List ℕ) (named : Option BookFault) → slice_get tables t ≡ Some table → first_table_fault trees [] tables ≡ first_table_fault trees (take t tables) (drop t tables)
-    → Fails named (unless_fault (variables_fault (length trees) t table) (tt {0})) → Fails named (book_of trees tables)
+pub variables-stop : (trees : List Tree) (tables : List (List Dimension)) (t : ℕ) (table : List Dimension) (named : Option BookFault) → slice_get tables t ≡ Some table → first_table_fault trees [] tables ≡ first_table_fault trees (take t tables) (drop t tables)
+    → Fails named (unless_fault (variables_fault (length trees) t table) (tt {0})) → Fails named (book_with_depths trees tables)
 variables-stop trees tables t table named at so_far fails =
-    subst (λ told. Fails {Y = List Tree × List (List ℕ)} named (unless_fault told (trees, tables))) (sym (so_far ∙ first-step trees tables t table at))
-    (fails-first {Y = List Tree × List (List ℕ)} named (variables_fault (length trees) t table) (cells_fault t (with_table trees tables t table)) (first_table_fault trees (take (t + 1) tables) (drop (t + 1) tables)) (tt {0}) (trees, tables) fails)
+    subst (λ told. Fails {Y = List Tree × List (List Dimension)} named (unless_fault told (trees, tables))) (sym (so_far ∙ first-step trees tables t table at))
+    (fails-first {Y = List Tree × List (List Dimension)} named (variables_fault (length trees) t table) (cells_fault t (with_table trees tables t table)) (first_table_fault trees (take (t + 1) tables) (drop (t + 1) tables)) (tt {0}) (trees, tables) fails)
 
 -- a table with too many cells
-pub cells-stop : (trees : List Tree) (tables : List (List ℕ)) (t : ℕ) (table : List ℕ) (named : Option BookFault) → slice_get tables t ≡ Some table → first_table_fault trees [] tables ≡ first_table_fault trees (take t tables) (drop t tables)
-    → variables_fault (length trees) t table ≡ None → Fails named (names_within_limit t (with_table trees tables t table)) → Fails named (book_of trees tables)
+pub cells-stop : (trees : List Tree) (tables : List (List Dimension)) (t : ℕ) (table : List Dimension) (named : Option BookFault) → slice_get tables t ≡ Some table → first_table_fault trees [] tables ≡ first_table_fault trees (take t tables) (drop t tables)
+    → variables_fault (length trees) t table ≡ None → Fails named (names_within_limit t (with_table trees tables t table)) → Fails named (book_with_depths trees tables)
 cells-stop trees tables t table named at so_far none fails =
-    subst (λ told. Fails {Y = List Tree × List (List ℕ)} named (unless_fault told (trees, tables))) (sym (so_far ∙ first-step trees tables t table at))
-    (fails-second {Y = List Tree × List (List ℕ)} named (variables_fault (length trees) t table) (cells_fault t (with_table trees tables t table)) (first_table_fault trees (take (t + 1) tables) (drop (t + 1) tables)) (with_table trees tables t table) (trees, tables) none fails)
+    subst (λ told. Fails {Y = List Tree × List (List Dimension)} named (unless_fault told (trees, tables))) (sym (so_far ∙ first-step trees tables t table at))
+    (fails-second {Y = List Tree × List (List Dimension)} named (variables_fault (length trees) t table) (cells_fault t (with_table trees tables t table)) (first_table_fault trees (take (t + 1) tables) (drop (t + 1) tables)) (with_table trees tables t table) (trees, tables) none fails)
 
 -- the tables so far can stand in a book
-pub sound-next : (variables : ℕ) (tables : List (List ℕ)) (t : ℕ) (table : List ℕ) → slice_get tables t ≡ Some table → All (IsTable variables) (take t tables) → variables_fault variables t table ≡ None → All (IsTable variables) (take (t + 1) tables)
+pub sound-next : (variables : ℕ) (tables : List (List Dimension)) (t : ℕ) (table : List Dimension) → slice_get tables t ≡ Some table → All (IsTable variables) (take t tables) → variables_fault variables t table ≡ None → All (IsTable variables) (take (t + 1) tables)
 sound-next variables tables t table at sound none =
     subst (λ some. All (IsTable variables) some) (sym (take-at tables t table at))
     (All-append (IsTable variables) (take t tables) (table ∷ []) sound (All-cons (IsTable variables) table [] (sound-table variables t table none) (grind arith)))

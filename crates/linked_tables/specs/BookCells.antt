@@ -2,10 +2,13 @@
 use Rattle.std.specs.Prelude.{◌≡◌, ℕ, ◌+◌, ◌≤◌, Bool, false, List, [], length, take, slice_get, slice_index_or, slice_range, bytes_eq, if◌then◌else◌, All, Option, None}
 use Rattle.std.specs.Option.{option_and_then, option_map_or}
 use Rattle.sdc_base.specs.Trees.{IsCodeTree, Tree}
+use Rattle.sdc_base.specs.CutTrees.{CutTree, goes_below}
+use Rattle.code_trees.specs.Children.{first_child}
 use Rattle.sdc_base.specs.Records.{Name}
 use Rattle.sdc_base.specs.Places.{first_place}
 use Rattle.sdc_base.specs.Cells.{cells_of, name_of, trees_of}
 use Rattle.sdc_base.specs.CellOrder.{is_place_in}
+use Rattle.sdc_base.specs.declared.dimension.Dimension.{Dimension}
 use Rattle.linked_tables.specs.declared.mark.Mark.{Mark}
 use Rattle.linked_tables.specs.BookViews.{BookView}
 use Rattle.linked_tables.specs.Tables.{most_cells, has_unknown, has_twice}
@@ -14,16 +17,20 @@ use Rattle.linked_tables.specs.Tables.{most_cells, has_unknown, has_twice}
 abbrev pub tree_of : BookView → ℕ → Tree
 tree_of book variable = slice_index_or book.trees variable []
 
+-- the first code right below a code in a cut tree; none where it is on the last level, or has none below it
+abbrev pub first_child_within : CutTree → ℕ → Option ℕ
+first_child_within cut above = if goes_below cut above then first_child cut.tree above else None
+
 -- the names of the cells, in the order of their numbers
 abbrev pub cells : BookView → List Name
 cells book = cells_of book.trees book.tables
 
 -- the name of what stands at a place of a table that spans these variables
-abbrev pub name_in_table : BookView → List ℕ → List ℕ → Name
+abbrev pub name_in_table : BookView → List Dimension → List ℕ → Name
 name_in_table book table place = name_of (length book.trees) table place
 
 -- the place is one of a table that spans these variables
-abbrev pub is_in : BookView → List ℕ → List ℕ → Bool
+abbrev pub is_in : BookView → List Dimension → List ℕ → Bool
 is_in book table place = is_place_in (trees_of book.trees table) place
 
 -- the number of the cell with this name
@@ -57,7 +64,7 @@ abbrev pub own_marks : BookView → ℕ → List Mark
 own_marks book t = slice_range book.marks (first_own book t) (first_own book (t + 1))
 
 -- the table spans variables of the book, none of them twice
-pub record IsTable (variables : ℕ) (table : List ℕ) : Type 0 where
+pub record IsTable (variables : ℕ) (table : List Dimension) : Type 0 where
   pub known : has_unknown variables table ≡ false
   pub once : has_twice table ≡ false
 

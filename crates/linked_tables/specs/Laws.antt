@@ -1,30 +1,41 @@
--- Which cells tables share, in the subject's words (tau-ARGUS user manual, linked tables).
-use Rattle.std.specs.Prelude.{◌≡◌, ◌↔◌, ℕ, ◌+◌, ◌<◌, ◌≤◌, ◌==◌, ◌&&◌, nat_lt, Bool, true, false, IsTrue, List, [], ◌++◌, length, take, drop, replicate, slice_index, slice_index_or, if◌then◌else◌, All}
+-- Which cells tables share, in the subject's words (tau-ARGUS user manual, linked tables; tables to a depth: own).
+use Rattle.std.specs.Prelude.{◌≡◌, ◌↔◌, ℕ, ◌+◌, ◌<◌, ◌≤◌, ◌==◌, ◌&&◌, Bool, true, false, IsTrue, List, [], ◌∷◌, ◌++◌, length, take, drop, replicate, slice_index, if◌then◌else◌, All, Option, None, Some}
 use Rattle.std.specs.List.Sorted.{IsPermutation}
-use Rattle.sdc_base.specs.Trees.{Tree}
+use Rattle.std.specs.Option.{option_map_or}
+use Rattle.sdc_base.specs.Trees.{IsCodeTree, Tree}
+use Rattle.sdc_base.specs.CutTrees.{has_code}
 use Rattle.sdc_base.specs.Records.{Name}
-use Rattle.sdc_base.specs.Cells.{is_named, named_by, spans}
+use Rattle.sdc_base.specs.Cells.{cut_tree, is_named, named_by, spans}
+use Rattle.sdc_base.specs.declared.dimension.Dimension.{Dimension}
 use Rattle.linked_tables.specs.declared.mark.Mark.{Mark}
 use Rattle.linked_tables.specs.BookViews.{BookView}
 use Rattle.linked_tables.specs.BookCells.{IsTable, cell_at, is_place_of, name_at}
 use Rattle.linked_tables.specs.Lending.{written_from}
 
--- a code that the table's cells can have for a variable: one of its tree where the table spans it, and else the total's
-abbrev pub is_code : List Tree → List ℕ → ℕ → ℕ → Bool
+-- how a table spans a variable; none where it doesn't
+abbrev pub dimension_of : List Dimension → ℕ → Option Dimension
+dimension_of [] variable = None
+dimension_of (dimension ∷ table) variable =
+    if dimension.variable == variable then Some dimension else dimension_of table variable
+
+-- a code that the table's cells can have for a variable: where the table spans it one of its tree that is at most as deep
+-- as the table goes, and else the total's
+abbrev pub is_code : List Tree → List Dimension → ℕ → ℕ → Bool
 is_code trees table variable code =
-    if spans table variable then nat_lt code (length (slice_index_or trees variable [])) else code == 0
+    option_map_or (λ dimension. has_code (cut_tree trees dimension) code) (dimension_of table variable) (code == 0)
 
 -- a table names exactly the cells that have such a code for each variable
 abbrev pub CellsByCode : Type 0
 CellsByCode =
-    (trees : List Tree) (table : List ℕ) (name : Name) → IsTable (length trees) table → length name ≡ length trees
+    (trees : List Tree) (table : List Dimension) (name : Name) → IsTable (length trees) table
+    → length name ≡ length trees
     → IsTrue (is_named (named_by trees table) name) ↔
     ((variable : ℕ) → variable < length trees → IsTrue (is_code trees table variable (slice_index name variable)))
 
--- tables over the same variables in another order share all their cells
+-- tables over the same variables, to the same depths, in another order share all their cells
 abbrev pub TurnedShareAll : Type 0
 TurnedShareAll =
-    (trees : List Tree) (table turned : List ℕ) (name : Name) → IsTable (length trees) table
+    (trees : List Tree) (table turned : List Dimension) (name : Name) → IsTable (length trees) table
     → IsTable (length trees) turned → IsPermutation table turned
     → IsTrue (is_named (named_by trees table) name) ↔ IsTrue (is_named (named_by trees turned) name)
 
@@ -35,7 +46,7 @@ grand_total variables = replicate variables 0
 -- tables that share no variable share exactly the grand total
 abbrev pub ApartShareTotal : Type 0
 ApartShareTotal =
-    (trees : List Tree) (one other : List ℕ) (name : Name) → All (λ tree. 0 < length tree) trees
+    (trees : List Tree) (one other : List Dimension) (name : Name) → All IsCodeTree trees
     → IsTable (length trees) one → IsTable (length trees) other
     → ((variable : ℕ) → (spans one variable && spans other variable) ≡ false)
     → (IsTrue (is_named (named_by trees one) name) × IsTrue (is_named (named_by trees other) name)) ↔

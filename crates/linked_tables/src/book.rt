@@ -2,30 +2,31 @@ ghost use Rattle.std.specs.Prelude.{◌≡◌, ◌↔◌, ◌≤◌, ◌<◌, �
 ghost use Rattle.std.specs.Option.{ForSome};
 ghost use Rattle.sdc_base.specs.Answers.{Gives};
 ghost use Rattle.linked_tables.specs.BlankMarks.{IsBlank};
-ghost use Rattle.linked_tables.specs.Tables.{book_of, book_fault_of};
+ghost use Rattle.linked_tables.specs.Tables.{book_of, book_with_depths, book_fault_of};
 ghost use Rattle.linked_tables.specs.BookCells.{cell_at, is_place_of, number_of, IsBook};
 ghost use Rattle.linked_tables.specs.BookCells as spec;
 
 use crate::book_fault::BookFault;
 use crate::mark::Mark;
 use crate::names::{Name, Names};
-use crate::numbering::{Numbering, blank_marks, number_cells};
+use crate::numbering::{Numbering, blank_marks, number_cells, whole_tables};
 use crate::places::{is_place, know_trees, size_at};
 use code_trees::CodeTree;
-use sdc_base::{Place, name_at};
+use sdc_base::{Dimension, Dimensions, Place, name_at};
 use std::alloc::Global;
 use std::marker::Model;
 
 /// Linked tables over the trees of some variables, with one mark for each cell, which contracts see as the trees,
-/// the tables and the marks. A table is the list of the variables that it spans.
+/// the tables and the marks. A table is the list of the variables that it spans, each with the depth to which the table
+/// takes its tree.
 ///
 /// A cell's name is one code for each variable, the total for those that a table doesn't span, and two tables share
 /// a cell where the names are equal. Cells are numbered from 0 in the order in which the tables first name them, the
 /// places of a table in lexicographic order. There are at most 8 variables and 60,000 cells.
 #[derive(Drop)]
 pub struct Book {
-    trees: Vec<CodeTree>,
-    tables: Vec<Place>,
+    pub(crate) trees: Vec<CodeTree>,
+    tables: Vec<Dimensions>,
     names: Names,
     starts: Vec<u32>,
     guesses: Vec<usize>,
@@ -46,7 +47,7 @@ impl Model for Book {
 
 impl Book {
     /// A book of these tables, each of which is the list of the variables that it spans, numbered from 0 in the order
-    /// of these trees. There is one mark for each cell; it has no records, keeps the two largest contributions at scale
+    /// of these trees, with all codes of their trees. There is one mark for each cell; it has no records, keeps the two largest contributions at scale
     /// 1, and isn't hidden.
     ///
     /// There are at most 8 trees, and fewer than `2^32` tables; a table may span no variable, and there may be none.
@@ -61,6 +62,25 @@ impl Book {
         requires fewer { length tables.items < 2 ^ 32 }
         ensures exact { Gives book_fault_of (λ book. (book.trees, book.tables)) result
             (book_of trees.items tables.items) }
+        ensures blank { IfOk result (λ book. All IsBlank book.marks) }
+        ensures one_each { IfOk result (λ book. length book.marks ≡ length (spec.cells book)) }
+    {
+        let tables = whole_tables(alloc, &tables)?;
+        Book::with_depths(alloc, trees, tables)
+    }
+
+    /// The same of tables that take the trees of their variables to a depth: such a table has those codes of a variable
+    /// that are at most so many steps below the total. It shares each of its cells with the other tables that have a
+    /// cell of that name, whatever their depths. A depth at or above that of a tree changes nothing.
+    pub fn with_depths(
+        alloc: Global,
+        trees: Vec<CodeTree>,
+        tables: Vec<Dimensions>,
+    ) -> Result<Book, BookFault>
+        requires at_most_8 { length trees.items ≤ 8 }
+        requires fewer { length tables.items < 2 ^ 32 }
+        ensures exact { Gives book_fault_of (λ book. (book.trees, book.tables)) result
+            (book_with_depths trees.items tables.items) }
         ensures blank { IfOk result (λ book. All IsBlank book.marks) }
         ensures one_each { IfOk result (λ book. length book.marks ≡ length (spec.cells book)) }
     {
@@ -130,8 +150,9 @@ impl Book {
         self.trees.get(variable as usize)
     }
 
-    /// The variables that table t spans, or none behind the last table.
-    pub fn spans(&self, t: u32) -> Option<&Place>
+    /// The variables that table t spans, each with the depth to which the table takes its tree, or none behind the last
+    /// table.
+    pub fn spans(&self, t: u32) -> Option<&Dimensions>
         ensures { option_map (λ table. table.now) result ≡ slice_get self.now.tables t }
     {
         self.tables.get(t as usize)
@@ -178,7 +199,7 @@ impl Book {
 
     // The number of the cell at a place of a table that spans these variables: the guess, where its name is that of the
     // place, and else by a look-up.
-    fn number_in(&self, t: usize, table: &[u32], place: &[u32]) -> Option<usize>
+    fn number_in(&self, t: usize, table: &[Dimension], place: &[u32]) -> Option<usize>
         ensures number { result ≡ (if is_in self.now table.now place.now
             then number_of self.now (name_in_table self.now table.now place.now) else None) }
         ensures within { IfSome result (λ number. number < length self.now.marks) }
@@ -195,7 +216,7 @@ impl Book {
     }
 
     // The number that was noted for a place of table t, where its cell has this name.
-    fn guess(&self, t: usize, table: &[u32], place: &[u32], name: &Name) -> Option<usize>
+    fn guess(&self, t: usize, table: &[Dimension], place: &[u32], name: &Name) -> Option<usize>
         ensures number { IfSome result (λ number. number_of self.now name.now ≡ Some number) }
         ensures within { IfSome result (λ number. number < length self.now.marks) }
     {
@@ -242,12 +263,12 @@ impl Book {
     }
 }
 
-// How many places of a table stand before a place of it.
-fn rank_of(trees: &[CodeTree], table: &[u32], place: &[u32]) -> usize {
+// How many places of a table stand before a place of it, where the table has all codes.
+fn rank_of(trees: &[CodeTree], table: &[Dimension], place: &[u32]) -> usize {
     let mut rank: usize = 0;
-    for (k, variable) in table.iter().enumerate() {
+    for (k, dimension) in table.iter().enumerate() {
         if k < place.len() {
-            let size = size_at(trees, *variable);
+            let size = size_at(trees, dimension.variable);
             rank = rank.wrapping_mul(size).wrapping_add(place[k] as usize);
         }
     }

@@ -1,16 +1,17 @@
-ghost use Rattle.std.specs.Prelude.{◌≡◌, ◌≤◌, ◌<◌, ◌^◌, ◌++◌, ◌∷◌, [], length, fold, All, None, Ok, IfOk, IfErr, OnOk};
+ghost use Rattle.std.specs.Prelude.{◌≡◌, ◌≤◌, ◌<◌, ◌^◌, ◌++◌, ◌∷◌, [], length, map, fold, All, None, Ok, IfOk, IfErr, OnOk};
 ghost use Rattle.sdc_base.specs.Answers.{Fails};
 ghost use Rattle.sdc_base.specs.Cells.{named_by, with_name};
+ghost use Rattle.sdc_base.specs.Cells as cells;
 ghost use Rattle.linked_tables.specs.BlankMarks.{IsBlank};
-ghost use Rattle.linked_tables.specs.Tables.{book_of, book_fault_of, first_table_fault, most_cells, unless_fault, variables_fault};
+ghost use Rattle.linked_tables.specs.Tables.{book_with_depths, book_fault_of, first_table_fault, most_cells, unless_fault, variables_fault};
 ghost use Rattle.linked_tables.specs.BookKeeping.{IsNumbered, names_within_limit, names_below};
 
 use crate::book_fault::BookFault;
 use crate::mark::Mark;
 use crate::names::{Name, Names};
-use crate::places::{size_at, spans_twice, spans_unknown};
+use crate::places::{is_within, size_at, spans_twice, spans_unknown};
 use code_trees::CodeTree;
-use sdc_base::{Place, name_at, with_code};
+use sdc_base::{Dimension, Dimensions, Place, name_at, whole_table, with_code};
 use std::alloc::{AllocError, Global};
 
 // The most cells of a book.
@@ -27,16 +28,27 @@ pub(crate) struct Numbering {
     pub(crate) bases: Vec<usize>,
 }
 
+/// Tables that have all codes of the variables that these lists name.
+pub(crate) fn whole_tables(alloc: Global, tables: &[Place]) -> Result<Vec<Dimensions>, AllocError>
+    ensures { IfOk result (λ made. made.items ≡ map cells.whole_table tables.now) }
+{
+    let mut made = Vec::new(alloc);
+    'tables: for table in tables {
+        made.push(whole_table(table))?;
+    }
+    Ok(made)
+}
+
 /// Numbers the cells of tables.
 pub(crate) fn number_cells(
     alloc: Global,
     trees: &[CodeTree],
-    tables: &[Place],
+    tables: &[Dimensions],
 ) -> Result<Numbering, BookFault>
     requires at_most_8 { length trees.now ≤ 8 }
     requires fewer { length tables.now < 2 ^ 32 }
     ensures none { OnOk result (first_table_fault trees.now [] tables.now ≡ None) }
-    ensures fault { IfErr result (λ fault. Fails (book_fault_of fault) (book_of trees.now tables.now)) }
+    ensures fault { IfErr result (λ fault. Fails (book_fault_of fault) (book_with_depths trees.now tables.now)) }
     ensures numbered { IfOk result (λ made. IsNumbered trees.now tables.now made.names made.starts.items) }
 {
     let mut names = Names::new(alloc);
@@ -59,7 +71,7 @@ pub(crate) fn number_cells(
 }
 
 // Refuses a table that spans a variable that there isn't, or one twice.
-fn check_variables(variables: usize, t: u32, table: &[u32]) -> Result<(), BookFault>
+fn check_variables(variables: usize, t: u32, table: &[Dimension]) -> Result<(), BookFault>
     ensures none { OnOk result (variables_fault variables t table.now ≡ None) }
     ensures fault { IfErr result (λ fault. Fails (book_fault_of fault)
         (unless_fault (variables_fault variables t table.now) (tt {0}))) }
@@ -77,7 +89,7 @@ fn check_variables(variables: usize, t: u32, table: &[u32]) -> Result<(), BookFa
 fn name_below(
     trees: &[CodeTree],
     t: u32,
-    table: &Place,
+    table: &Dimensions,
     place: &[u32],
     names: &mut Names,
     guesses: &mut Vec<usize>,
@@ -94,8 +106,12 @@ fn name_below(
         let name = name_at(trees.len(), table.as_slice(), place);
         return add_name(t, Name::new(name), names, guesses);
     }
-    let size = size_at(trees, table.as_slice()[place.len()]);
+    let dimension = table.as_slice()[place.len()];
+    let size = size_at(trees, dimension.variable);
     'codes: for code in 0..size {
+        if !is_within(trees, dimension, code as u32) {
+            continue 'codes;
+        }
         let longer = with_code(place, code as u32);
         name_below(trees, t, table, longer.as_slice(), names, guesses)?;
     }

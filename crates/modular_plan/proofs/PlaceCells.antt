@@ -13,6 +13,7 @@ use Rattle.sdc_base.specs.Cells.{name_of}
 use Rattle.sdc_base.specs.Cubes.{choices}
 use Rattle.sdc_base.specs.Subtables.{is_place_below}
 use Rattle.sdc_base.specs.declared.cube.Subtable.{Subtable}
+use Rattle.sdc_base.specs.declared.dimension.Dimension.{Dimension}
 use Rattle.linked_tables.specs.BookViews.{BookView}
 use Rattle.linked_tables.specs.BookCells.{IsBook, IsTable, cells, cell_at, is_in, name_at}
 use Rattle.linked_tables.proofs.Finding.{cell-found, cell-named}
@@ -38,7 +39,7 @@ both false b h = cc
 place-codes : (book : BookView) → IsBook book → (t cell : ℕ) (place : List ℕ) → cell_at book t place ≡ Some cell → codes_at book (slice_index_or book.tables t []) cell ≡ place
 place-codes book is_book t cell place at = by (slice_get book.tables t) refl (ap is_some (sym at) ∙ cell-found book t place) (cell-named book t place cell at)
   where
-    by : (met : Option (List ℕ)) → slice_get book.tables t ≡ met → true ≡ option_map_or (λ table. is_in book table place) met false
+    by : (met : Option (List Dimension)) → slice_get book.tables t ≡ met → true ≡ option_map_or (λ table. is_in book table place) met false
         → slice_get (cells book) cell ≡ Some (option_map_or (λ table. name_of (length book.trees) table place) met [])
         → codes_at book (slice_index_or book.tables t []) cell ≡ place
     by None known inside named = cc
@@ -46,8 +47,8 @@ place-codes book is_book t cell place at = by (slice_get book.tables t) refl (ap
         let same : slice_index_or book.tables t [] ≡ table = get_or_from_slice_get book.tables t table [] known in
         let sound : IsTable (length book.trees) table = subst (IsTable (length book.trees)) same (book_tables t (slice_get_within book.tables t table known)) in
         let name : slice_index_or (cells book) cell [] ≡ name_of (length book.trees) table place = get_or_from_slice_get (cells book) cell (name_of (length book.trees) table place) [] named in
-        ap (λ (spanned : List ℕ). codes_at book spanned cell) same
-        ∙ ap (λ (one : Name). map (λ variable. slice_index one variable) table) name
+        ap (λ (spanned : List Dimension). codes_at book spanned cell) same
+        ∙ ap (λ (one : Name). map (λ (dimension : Dimension). slice_index one dimension.variable) table) name
         ∙ place-of-name book.trees table place sound (sym inside)
       where
         book_tables : (k : ℕ) → k < length book.tables → IsTable (length book.trees) (slice_index_or book.tables k [])
@@ -91,7 +92,7 @@ there-below : (book : BookView) → IsBook book → (t cell : ℕ) (parents : Li
     → list_any (stands_at book t cell) (choices (code_lists book.trees (slice_index_or book.tables t []) parents)) ≡ true
     → (is_place_below book.trees (slice_index_or book.tables t []) parents (codes_at book (slice_index_or book.tables t []) cell) && stands_at book t cell (codes_at book (slice_index_or book.tables t []) cell)) ≡ true
 there-below book is_book t cell parents h =
-    let table : List ℕ = slice_index_or book.tables t [] in
+    let table : List Dimension = slice_index_or book.tables t [] in
     let lists = code_lists book.trees table parents in
     let one = any-among (stands_at book t cell) (choices lists) h in
     let place = one.0 in
@@ -100,14 +101,14 @@ there-below book is_book t cell parents h =
     subst (λ (at : List ℕ). (is_place_below book.trees table parents at && stands_at book t cell at) ≡ true) (sym same) (rw (below, one.2) refl)
 
 -- and a cell that stands where its codes say, which are codes of the subtable, stands at one of the places
-below-there : (book : BookView) (t cell : ℕ) (table parents : List ℕ)
+below-there : (book : BookView) (t cell : ℕ) (table : List Dimension) (parents : List ℕ)
     → (is_place_below book.trees table parents (codes_at book table cell) && stands_at book t cell (codes_at book table cell)) ≡ true
     → list_any (stands_at book t cell) (choices (code_lists book.trees table parents)) ≡ true
 below-there book t cell table parents h =
     let place = codes_at book table cell in
     let lists = code_lists book.trees table parents in
     let parts = both (is_place_below book.trees table parents place) (stands_at book t cell place) h in
-    let picked = below-picks book.trees table parents place (map-long (λ variable. slice_index (slice_index_or (cells book) cell []) variable) table) parts.0 in
+    let picked = below-picks book.trees table parents place (map-long (λ (dimension : Dimension). slice_index (slice_index_or (cells book) cell []) dimension.variable) table) parts.0 in
     among-any (stands_at book t cell) (choices lists) place (picks-among lists place picked) parts.1
 
 -- a cell stands at one of the places exactly where it is one of the subtable

@@ -1,13 +1,14 @@
 -- Each step of a trail is the whole cube of a cell in a subtable.
-use Rattle.std.proofs.Common.{◌≡◌, ℕ, zero, suc, ◌+◌, ◌<◌, ◌≤◌, ◌==◌, ◌&&◌, ◌||◌, Bool, true, false, not, cond, List, [], ◌∷◌, ◌++◌, length, map, filter, fold, get_or, slice_get, slice_index, slice_index_or, Option, None, Some, if◌then◌else◌, refl, ap, sym, ◌∙◌, subst, arith, append_assoc, length-append}
+use Rattle.std.proofs.Common.{◌≡◌, ℕ, zero, suc, ◌+◌, ◌<◌, ◌≤◌, ◌==◌, ◌&&◌, ◌||◌, nat_le, nat_lt, All, Bool, true, false, not, cond, List, [], ◌∷◌, ◌++◌, length, map, filter, fold, get_or, slice_get, slice_index, slice_index_or, Option, None, Some, if◌then◌else◌, refl, ap, sym, ◌∙◌, subst, arith, append_assoc, length-append}
 use Rattle.std.specs.List.{AllByRecursion, Contains, list_all, list_any, range_with_len}
-use Rattle.std.specs.Option.{MatchOption, option_and_then, option_map_or}
-use Rattle.std.proofs.lemmas.Bool.Decides.{Decides-eqb}
+use Rattle.std.specs.Option.{MatchOption, option_map_or}
+use Rattle.std.proofs.lemmas.Bool.Decides.{Decides-eqb, nat_tests}
 use Rattle.std.proofs.lemmas.List.{length-map}
 use Rattle.std.proofs.Math.Seq.{get_or-append_seam}
-use Rattle.sdc_base.specs.Trees.{Tree, children, is_child}
+use Rattle.sdc_base.specs.Trees.{IsCodeTree, Tree, children, is_child}
+use Rattle.sdc_base.specs.CutTrees.{CutTree, children_within, goes_below, has_code, is_child_within, is_within}
 use Rattle.sdc_base.specs.Records.{Name}
-use Rattle.sdc_base.specs.Cells.{trees_of}
+use Rattle.sdc_base.specs.Cells.{cut_tree, trees_of}
 use Rattle.sdc_base.specs.HiddenSets.{MayHide, may_hide}
 use Rattle.sdc_base.specs.declared.cell.Kind.{Kind}
 use Rattle.sdc_base.specs.declared.cell.Kind.TheVariants.{Primary, Free, Fixed}
@@ -20,19 +21,21 @@ use Rattle.sdc_base.specs.declared.cell.Cell.{Cell}
 use Rattle.sdc_base.specs.declared.cube.Corner.{Corner}
 use Rattle.sdc_base.specs.declared.cube.Edge.{Edge}
 use Rattle.sdc_base.specs.declared.cube.Subtable.{Subtable}
+use Rattle.sdc_base.specs.declared.dimension.Dimension.{Dimension}
 use Rattle.sdc_base.specs.declared.facts.Levels.{Levels}
 use Rattle.sdc_base.specs.declared.trail.PlanStep.{PlanStep}
 use Rattle.sdc_base.proofs.GrowingLists.{read-at}
 use Rattle.sdc_base.proofs.ListReads.{read-some}
 use Rattle.cost_rule.specs.declared.kind.CostKind.{CostKind}
 use Rattle.linked_tables.specs.BookViews.{BookView}
-use Rattle.linked_tables.specs.BookCells.{IsBook, cells, cell_at}
+use Rattle.linked_tables.specs.BookCells.{IsBook, IsTable, cells, cell_at}
+use Rattle.linked_tables.specs.Tables.{has_unknown}
 use Rattle.hypercube.specs.CornerLaws.{AreInTrees, AreWhole}
 use Rattle.hypercube.specs.LeastCubes.{cubes_in, price_in}
 use Rattle.hypercube.specs.LeastLaws.{AreLeast, NoneServes}
 use Rattle.hypercube.proofs.AllOf.{all-append, all-flat, all-map, all-more}
 use Rattle.hypercube.proofs.LeastLaw.{least_is_first}
-use Rattle.hypercube.proofs.WholeCubes.{cubes_are_whole}
+use Rattle.hypercube.proofs.WholeCubes.{all-at, child-in, cubes_are_whole}
 use Rattle.modular_plan.specs.Plans.{codes_at, hidden_among, hidden_in, in_passes, is_cell_of, with_cell, with_subtable}
 use Rattle.modular_plan.specs.StepLaws.{IsWholeStep, StepsAreWhole}
 
@@ -42,45 +45,57 @@ both false b h = cc
 
 -- ---- subtables
 
--- a parent for each variable of a table, in the variable's tree
-abbrev AreParents : List Tree → List ℕ → List ℕ → Type 0
+-- a parent for each variable of a table, each a code that the table has
+abbrev AreParents : List Tree → List Dimension → List ℕ → Type 0
 AreParents trees [] [] = Unit {0}
 AreParents trees [] (parent ∷ parents) = ⊥
-AreParents trees (variable ∷ table) [] = ⊥
-AreParents trees (variable ∷ table) (parent ∷ parents) = (parent < length (slice_index_or trees variable [])) × AreParents trees table parents
+AreParents trees (dimension ∷ table) [] = ⊥
+AreParents trees (dimension ∷ table) (parent ∷ parents) = (has_code (cut_tree trees dimension) parent ≡ true) × AreParents trees table parents
 
-parents-long : (trees : List Tree) (table parents : List ℕ) → AreParents trees table parents → length parents ≡ length table
+parents-long : (trees : List Tree) (table : List Dimension) (parents : List ℕ) → AreParents trees table parents → length parents ≡ length table
 parents-long trees [] [] are = refl
 parents-long trees [] (parent ∷ parents) are = absurd are
-parents-long trees (variable ∷ table) [] are = absurd are
-parents-long trees (variable ∷ table) (parent ∷ parents) are = ap suc (parents-long trees table parents are.1)
+parents-long trees (dimension ∷ table) [] are = absurd are
+parents-long trees (dimension ∷ table) (parent ∷ parents) are = ap suc (parents-long trees table parents are.1)
 
-among-inside : (tree : Tree) (a n : ℕ) → a + n ≤ length tree → AllByRecursion (λ code. code < length tree) (inner_among tree (range_with_len a n))
-among-inside tree a zero few = tt
-among-inside tree a (suc n) few =
-    elim (not (length (children tree a) == 0)) as (λ b. AllByRecursion (λ code. code < length tree) (cond b (a ∷ inner_among tree (range_with_len (a + 1) n)) (inner_among tree (range_with_len (a + 1) n)))) [
-      | true ↦ (omega (arith, few), among-inside tree (a + 1) n (omega (arith, few)))
-      | false ↦ among-inside tree (a + 1) n (omega (arith, few))
-    ]
+-- a code that has children in a cut tree is one of it
+inner-has : (cut : CutTree) (code : ℕ) → code < length cut.tree → not (length (children_within cut code) == 0) ≡ true → has_code cut code ≡ true
+inner-has cut code inside some =
+    let goes : goes_below cut code ≡ true = by (goes_below cut code) some in
+    let first : nat_lt code (length cut.tree) ≡ true = grind (arith, nat_tests, inside) in
+    let second : is_within cut code ≡ true = grind (arith, nat_tests, goes) in
+    rw (first, second) refl
+  where
+    by : (b : Bool) → not (length (if b then children cut.tree code else []) == 0) ≡ true → b ≡ true
+    by true h = refl
+    by false h = cc
 
-parents-inside : (trees : List Tree) (table : List ℕ) → AllByRecursion (AreParents trees table) (choices (map inner_codes (trees_of trees table)))
+among-inside : (cut : CutTree) (a n : ℕ) → a + n ≤ length cut.tree → AllByRecursion (λ code. has_code cut code ≡ true) (inner_among cut (range_with_len a n))
+among-inside cut a zero few = tt
+among-inside cut a (suc n) few =
+    elim (not (length (children_within cut a) == 0)) as (λ b. not (length (children_within cut a) == 0) ≡ b → AllByRecursion (λ code. has_code cut code ≡ true) (cond b (a ∷ inner_among cut (range_with_len (a + 1) n)) (inner_among cut (range_with_len (a + 1) n)))) [
+      | true ↦ λ some. (inner-has cut a (omega (arith, few)) some, among-inside cut (a + 1) n (omega (arith, few)))
+      | false ↦ λ _. among-inside cut (a + 1) n (omega (arith, few))
+    ] refl
+
+parents-inside : (trees : List Tree) (table : List Dimension) → AllByRecursion (AreParents trees table) (choices (map inner_codes (trees_of trees table)))
 parents-inside trees [] = (tt, tt)
-parents-inside trees (variable ∷ table) =
-    let tree = slice_index_or trees variable [] in
+parents-inside trees (dimension ∷ table) =
+    let cut = cut_tree trees dimension in
     let rest = choices (map inner_codes (trees_of trees table)) in
-    all-flat (AreParents trees (variable ∷ table)) (λ one. map (λ others. one ∷ others) rest) (inner_codes tree)
-    (all-more (λ code. code < length tree) (λ code. AllByRecursion (AreParents trees (variable ∷ table)) (map (λ others. code ∷ others) rest)) (inner_codes tree)
-    (λ code here. all-map (AreParents trees (variable ∷ table)) (λ others. code ∷ others) rest
-    (all-more (AreParents trees table) (λ others. AreParents trees (variable ∷ table) (code ∷ others)) rest (λ others later. (here, later)) (parents-inside trees table)))
-    (among-inside tree 0 (length tree) (omega arith)))
+    all-flat (AreParents trees (dimension ∷ table)) (λ one. map (λ others. one ∷ others) rest) (inner_codes cut)
+    (all-more (λ code. has_code cut code ≡ true) (λ code. AllByRecursion (AreParents trees (dimension ∷ table)) (map (λ others. code ∷ others) rest)) (inner_codes cut)
+    (λ code here. all-map (AreParents trees (dimension ∷ table)) (λ others. code ∷ others) rest
+    (all-more (AreParents trees table) (λ others. AreParents trees (dimension ∷ table) (code ∷ others)) rest (λ others later. (here, later)) (parents-inside trees table)))
+    (among-inside cut 0 (length cut.tree) (omega arith)))
 
 -- a subtable of one of the tables
-record IsSubtable (trees : List Tree) (tables : List (List ℕ)) (subtable : Subtable) : Type 0 where
-  table : List ℕ
+record IsSubtable (trees : List Tree) (tables : List (List Dimension)) (subtable : Subtable) : Type 0 where
+  table : List Dimension
   stands : slice_get tables subtable.table ≡ Some table
   parents : AreParents trees table subtable.parents
 
-from-subtables : (trees : List Tree) (tables before rest : List (List ℕ)) → tables ≡ before ++ rest → AllByRecursion (IsSubtable trees tables) (subtables_from trees (length before) rest)
+from-subtables : (trees : List Tree) (tables before rest : List (List Dimension)) → tables ≡ before ++ rest → AllByRecursion (IsSubtable trees tables) (subtables_from trees (length before) rest)
 from-subtables trees tables before [] is = tt
 from-subtables trees tables before (table ∷ rest) is =
     let at : slice_index_or tables (length before) [] ≡ table = ap (λ all. get_or all (length before) []) is ∙ get_or-append_seam before table rest [] in
@@ -106,7 +121,7 @@ all-each : {X : Type 0} (P : X → Type 0) (xs : List X) → ((x : X) → P x) �
 all-each P [] each = tt
 all-each P (x ∷ xs) each = (each x, all-each P xs each)
 
-ordered-subtables : (trees : List Tree) (tables : List (List ℕ)) → AllByRecursion (IsSubtable trees tables) (ordered_subtables trees tables)
+ordered-subtables : (trees : List Tree) (tables : List (List Dimension)) → AllByRecursion (IsSubtable trees tables) (ordered_subtables trees tables)
 ordered-subtables trees tables =
     let depths = range_with_len 0 (most_depth + 1) in
     let all = subtables_from trees 0 tables in
@@ -116,30 +131,29 @@ ordered-subtables trees tables =
 
 -- ---- the cells of a subtable
 
-child-inside : (tree : Tree) (above code : ℕ) → is_child tree above code ≡ true → code < length tree
-child-inside tree above code h = by tree code h
+code-inside : (cut : CutTree) → IsCodeTree cut.tree → (parent code : ℕ) → has_code cut parent ≡ true → is_code_in cut parent code ≡ true → has_code cut code ≡ true
+code-inside cut is parent code inside h = by (code == parent) refl h
   where
-    by : (nodes : Tree) (code : ℕ) → option_map_or (λ parent. parent == above) (option_and_then (λ node. node.1) (slice_get nodes code)) false ≡ true → code < length nodes
-    by [] zero h = cc
-    by [] (suc code) h = cc
-    by (node ∷ nodes) zero h = omega arith
-    by (node ∷ nodes) (suc code) h = let less = by nodes code h in omega (arith, less)
+    by : (same : Bool) → (code == parent) ≡ same → (same || is_child_within cut parent code) ≡ true → has_code cut code ≡ true
+    by true is h = let equal : code ≡ parent = (Decides-eqb code parent).0 is in subst (λ (n : ℕ). has_code cut n ≡ true) (sym equal) inside
+    by false apart h = let parts = both (goes_below cut parent) (is_child cut.tree parent code) h in child-in cut is parent code parts.0 parts.1
 
-code-inside : (tree : Tree) (parent code : ℕ) → parent < length tree → is_code_in tree parent code ≡ true → code < length tree
-code-inside tree parent code inside h = by (code == parent) refl h
+names-inside : (trees : List Tree) (name : Name) (table : List Dimension) (parents : List ℕ) → All IsCodeTree trees → has_unknown (length trees) table ≡ false → AreParents trees table parents
+    → is_place_below trees table parents (map (λ (dimension : Dimension). slice_index name dimension.variable) table) ≡ true → AreInTrees trees name table parents
+names-inside trees name [] [] good known are h = tt
+names-inside trees name [] (parent ∷ parents) good known are h = absurd are
+names-inside trees name (dimension ∷ table) [] good known are h = absurd are
+names-inside trees name (dimension ∷ table) (parent ∷ parents) good known are h =
+    let cut = cut_tree trees dimension in
+    let code = slice_index name dimension.variable in
+    let spanned = neither (nat_le (length trees) dimension.variable) (has_unknown (length trees) table) known in
+    let below : dimension.variable < length trees = grind (arith, nat_tests, spanned.0) in
+    let parts = both (is_code_in cut parent code) (is_place_below trees table parents (map (λ (one : Dimension). slice_index name one.variable) table)) h in
+    (are.0, code-inside cut (good dimension.variable [] below) parent code are.0 parts.0, names-inside trees name table parents good spanned.1 are.1 parts.1)
   where
-    by : (same : Bool) → (code == parent) ≡ same → (same || is_child tree parent code) ≡ true → code < length tree
-    by true is h = let equal : code ≡ parent = (Decides-eqb code parent).0 is in subst (λ (n : ℕ). n < length tree) (sym equal) inside
-    by false is h = child-inside tree parent code h
-
-names-inside : (trees : List Tree) (name : Name) (table parents : List ℕ) → AreParents trees table parents → is_place_below trees table parents (map (λ variable. slice_index name variable) table) ≡ true → AreInTrees trees name table parents
-names-inside trees name [] [] are h = tt
-names-inside trees name [] (parent ∷ parents) are h = absurd are
-names-inside trees name (variable ∷ table) [] are h = absurd are
-names-inside trees name (variable ∷ table) (parent ∷ parents) are h =
-    let tree = slice_index_or trees variable [] in
-    let parts = both (is_code_in tree parent (slice_index name variable)) (is_place_below trees table parents (map (λ variable. slice_index name variable) table)) h in
-    (are.0, code-inside tree parent (slice_index name variable) are.0 parts.0, names-inside trees name table parents are.1 parts.1)
+    neither : (a b : Bool) → (a || b) ≡ false → (a ≡ false) × (b ≡ false)
+    neither true b h = absurd cc
+    neither false b h = (refl, h)
 
 -- ---- a cube that serves can be hidden
 
@@ -180,11 +194,12 @@ least-whole book members subtable cell hidden price levels corners is_book is_su
     let found : slice_index_or book.tables subtable.table [] ≡ table = read-some book.tables subtable.table table [] (sym is_subtable.stands) in
     let place = codes_at book (slice_index_or book.tables subtable.table []) cell in
     let below = both (is_place_below book.trees (slice_index_or book.tables subtable.table []) subtable.parents place) (option_map_or (λ one. one == cell) (cell_at book subtable.table place) false) is_cell in
-    let below_table = subst (λ (variables : List ℕ). is_place_below book.trees variables subtable.parents (codes_at book variables cell) ≡ true) found below.0 in
-    let inside : AreInTrees book.trees name table subtable.parents = names-inside book.trees name table subtable.parents is_subtable.parents below_table in
+    let below_table = subst (λ (variables : List Dimension). is_place_below book.trees variables subtable.parents (codes_at book variables cell) ≡ true) found below.0 in
+    let sound : IsTable (length book.trees) table = all-at (IsTable (length book.trees)) book.tables subtable.table table is_book.tables is_subtable.stands in
+    let inside : AreInTrees book.trees name table subtable.parents = names-inside book.trees name table subtable.parents is_book.trees sound.known is_subtable.parents below_table in
     let whole = cubes_are_whole book subtable.table table name subtable.parents is_book is_subtable.stands inside in
     let cube = contained (λ (one : List Edge). AreWhole (length table) (corners_of (cell_at book subtable.table) one)) (cubes_at book.trees name table subtable.parents) least.cube whole
-    (subst (λ (variables : List ℕ). Contains (cubes_at book.trees name variables subtable.parents) least.cube) found least.one) in
+    (subst (λ (variables : List Dimension). Contains (cubes_at book.trees name variables subtable.parents) least.cube) found least.one) in
     let mine : AreWhole (length table) corners = subst (λ (all : List Corner). AreWhole (length table) all) (sym least.theirs) cube in
     record {
       variables = table;

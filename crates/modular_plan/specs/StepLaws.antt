@@ -5,6 +5,7 @@ use Rattle.std.specs.List.{AllByRecursion}
 use Rattle.std.specs.List.Sorted.{IsStrictlyIncreasing}
 use Rattle.sdc_base.specs.HiddenSets.{MayHide}
 use Rattle.sdc_base.specs.declared.cell.Cell.{Cell}
+use Rattle.sdc_base.specs.declared.dimension.Dimension.{Dimension}
 use Rattle.sdc_base.specs.declared.trail.PlanStep.{PlanStep}
 use Rattle.cost_rule.specs.declared.kind.CostKind.{CostKind}
 use Rattle.linked_tables.specs.BookViews.{BookView}
@@ -14,7 +15,7 @@ use Rattle.modular_plan.specs.Plans.{trail_of}
 -- A step is of a table of the book: it has a parent for each variable of the table, and 2 to their number corners, by
 -- their numbers upwards, each of which may be hidden.
 pub record IsWholeStep (book : BookView) (cells : List Cell) (step : PlanStep) : Type 0 where
-  pub variables : List ℕ
+  pub variables : List Dimension
   pub table : slice_get book.tables step.table ≡ Some variables
   pub parents : length step.parents ≡ length variables
   pub all : length step.corners ≡ 2 ^ length variables

@@ -1,5 +1,6 @@
 ghost use Rattle.std.specs.Prelude.{◌≡◌, ◌<◌, ◌≤◌, [], length, fold, drop, slice_get, slice_index_or, All, IfOk, OnOk};
 ghost use Rattle.std.specs.Option.{option_map_or};
+ghost use Rattle.sdc_base.specs.Cells.{cut_tree};
 ghost use Rattle.sdc_base.specs.Cubes as spec;
 ghost use Rattle.linked_tables.specs.BookCells.{cells};
 ghost use Rattle.hypercube.specs.LeastCubes.{is_marked};
@@ -7,7 +8,7 @@ ghost use Rattle.modular_plan.specs.Plans as plans;
 ghost use Rattle.modular_plan.specs.SubtablePlaces as subtable_places;
 
 use linked_tables::Book;
-use sdc_base::{Few, Items, Memory, Place, Subtable, with_code};
+use sdc_base::{Dimension, Dimensions, Few, Items, Memory, Place, Subtable, with_code};
 use std::alloc::Global;
 use std::collections::BTreeSet;
 
@@ -101,15 +102,15 @@ fn code_lists(alloc: Global, book: &Book, subtable: &Subtable) -> Result<Vec<Ite
     let table = table_of(book, subtable.table);
     let few = table.len();
     'variables: for k in 0..few {
-        let variable = table.as_slice()[k];
-        let codes = codes_of(alloc, book, variable, subtable.parents.as_slice(), k)?;
+        let dimension = table.as_slice()[k];
+        let codes = codes_of(alloc, book, dimension, subtable.parents.as_slice(), k)?;
         lists.push(codes)?;
     }
     Ok(lists)
 }
 
-// The variables that a table spans; none where there is no such table.
-fn table_of(book: &Book, t: u32) -> Place
+// The variables that a table spans, with their depths; none where there is no such table.
+fn table_of(book: &Book, t: u32) -> Dimensions
     ensures { result ≡ slice_index_or book.now.tables t [] }
 {
     match book.spans(t) {
@@ -118,33 +119,39 @@ fn table_of(book: &Book, t: u32) -> Place
     }
 }
 
-// The codes of a variable in a subtable whose parent for it stands at place k; none where there is no such parent.
+// The codes of a variable that a table spans so, in a subtable whose parent for it stands at place k; none where there is
+// no such parent.
 fn codes_of(
     alloc: Global,
     book: &Book,
-    variable: u32,
+    dimension: Dimension,
     parents: &[u32],
     k: usize,
 ) -> Result<Items<u32>, Memory>
     ensures { IfOk result (λ codes. codes
-        ≡ option_map_or (spec.codes_in (slice_index_or book.now.trees variable [])) (slice_get parents.now k) []) }
+        ≡ option_map_or (spec.codes_in (cut_tree book.now.trees dimension)) (slice_get parents.now k) []) }
 {
     match parents.get(k) {
-        Some(parent) => codes_in(alloc, book, variable, *parent),
+        Some(parent) => codes_in(alloc, book, dimension, *parent),
         None => Ok(Items::new(Vec::new(alloc))),
     }
 }
 
-// A code of a variable, and its children.
-fn codes_in(alloc: Global, book: &Book, variable: u32, parent: u32) -> Result<Items<u32>, Memory>
-    ensures { IfOk result (λ codes. codes ≡ spec.codes_in (slice_index_or book.now.trees variable []) parent) }
+// A code of a variable that a table spans so, and its children in the table.
+fn codes_in(
+    alloc: Global,
+    book: &Book,
+    dimension: Dimension,
+    parent: u32,
+) -> Result<Items<u32>, Memory>
+    ensures { IfOk result (λ codes. codes ≡ spec.codes_in (cut_tree book.now.trees dimension) parent) }
 {
     let mut codes = Vec::new(alloc);
     codes.push(parent)?;
-    let mut met = book.first_child(variable, parent);
+    let mut met = book.first_child_within(dimension, parent);
     'children: while let Some(child) = met {
         codes.push(child)?;
-        met = book.next_sibling(variable, child);
+        met = book.next_sibling(dimension.variable, child);
     }
     Ok(Items::new(codes))
 }

@@ -1,9 +1,10 @@
 ghost use Rattle.std.specs.Prelude.{◌≡◌, ◌<◌, ◌≤◌, ◌+◌, ◌^◌, ◌*◌, ◌++◌, ◌∷◌, ◌==◌, [], if◌then◌else◌, length, slice_index_or, IfOk, OnOk};
 ghost use Rattle.std.specs.List.{range_with_len};
+ghost use Rattle.sdc_base.specs.CutTrees.{depth_in};
 ghost use Rattle.sdc_base.specs.Subtables as spec;
 
 use linked_tables::Book;
-use sdc_base::{Memory, Place, Subtable};
+use sdc_base::{Dimensions, Memory, Subtable};
 use std::alloc::Global;
 
 // A summed depth that no place exceeds.
@@ -73,7 +74,7 @@ fn depth_of(book: &Book, subtable: &Subtable) -> u64
 }
 
 // The depths of a place's codes together.
-fn summed_depth(book: &Book, table: &Place, place: &[u32]) -> u64
+fn summed_depth(book: &Book, table: &Dimensions, place: &[u32]) -> u64
     ensures { result ≡ spec.summed_depth book.now.trees table.now place.now }
 {
     let mut sum: u64 = 0;
@@ -82,23 +83,15 @@ fn summed_depth(book: &Book, table: &Place, place: &[u32]) -> u64
         if k >= place.len() {
             return sum;
         }
-        sum += depth_at(book, table.as_slice()[k], place[k]);
+        sum += depth_at(book, table.as_slice()[k].variable, place[k]);
     }
     sum
 }
 
 // The depth of a code of a variable.
 fn depth_at(book: &Book, variable: u32, code: u32) -> u64
-    ensures depth { result ≡ spec.depth_in (slice_index_or book.now.trees variable []) code }
+    ensures depth { result ≡ depth_in (slice_index_or book.now.trees variable []) code }
     ensures small { result < 2 ^ 32 }
 {
-    // As the definition has it: a variable or a code behind the last one has depth 0.
-    let Some(tree) = book.tree(variable) else {
-        return 0;
-    };
-    let _ = tree.len();
-    match tree.depth(code) {
-        Some(depth) => u64::from(depth),
-        None => 0,
-    }
+    u64::from(book.depth(variable, code))
 }

@@ -1,11 +1,11 @@
 ghost use Rattle.std.specs.Prelude.{◌≡◌, ◌<◌, ◌≤◌, ◌+◌, ◌++◌, ◌∷◌, ◌==◌, [], not, if◌then◌else◌, length, map, drop, slice_index_or, IfOk, OnOk};
-ghost use Rattle.sdc_base.specs.Trees.{children};
-ghost use Rattle.sdc_base.specs.Cells.{trees_of};
+ghost use Rattle.sdc_base.specs.CutTrees.{children_within};
+ghost use Rattle.sdc_base.specs.Cells.{cut_tree, trees_of};
 ghost use Rattle.sdc_base.specs.Subtables as spec;
 ghost use Rattle.modular_plan.specs.Beginnings.{subtables_below};
 
 use linked_tables::Book;
-use sdc_base::{Few, Items, Memory, Place, Subtable, with_code};
+use sdc_base::{Dimension, Dimensions, Few, Items, Memory, Place, Subtable, with_code};
 use std::alloc::Global;
 
 /// The subtables of a book, by their tables and then by the places of their parents.
@@ -32,8 +32,8 @@ fn add_table(alloc: Global, book: &Book, t: u32, found: &mut Vec<Subtable>) -> R
     add_choices(t, lists.as_slice(), &Few::empty(), found)
 }
 
-// The codes that have children, variable by variable of a table.
-fn inner_lists(alloc: Global, book: &Book, table: &Place) -> Result<Vec<Items<u32>>, Memory>
+// The codes that have children in a table, variable by variable of it.
+fn inner_lists(alloc: Global, book: &Book, table: &Dimensions) -> Result<Vec<Items<u32>>, Memory>
     ensures lists { IfOk result (λ lists. lists.items ≡ map spec.inner_codes (trees_of book.now.trees table.now)) }
     ensures at_most_8 { IfOk result (λ lists. length lists.items ≤ 8) }
 {
@@ -46,25 +46,30 @@ fn inner_lists(alloc: Global, book: &Book, table: &Place) -> Result<Vec<Items<u3
     Ok(lists)
 }
 
-// The codes of a variable that have children.
-fn inner_codes(alloc: Global, book: &Book, variable: u32) -> Result<Items<u32>, Memory>
-    ensures { IfOk result (λ codes. codes ≡ spec.inner_codes (slice_index_or book.now.trees variable [])) }
+// The codes of a variable that have children in a table that spans it so.
+fn inner_codes(alloc: Global, book: &Book, dimension: Dimension) -> Result<Items<u32>, Memory>
+    ensures { IfOk result (λ codes. codes ≡ spec.inner_codes (cut_tree book.now.trees dimension)) }
 {
     let mut codes = Vec::new(alloc);
-    let size = book.size(variable);
+    let size = book.size(dimension.variable);
     'codes: for code in 0..size {
-        add_inner(book, variable, code as u32, &mut codes)?;
+        add_inner(book, dimension, code as u32, &mut codes)?;
     }
     Ok(Items::new(codes))
 }
 
 // Adds a code, where it has children.
-fn add_inner(book: &Book, variable: u32, code: u32, codes: &mut Vec<u32>) -> Result<(), Memory>
+fn add_inner(
+    book: &Book,
+    dimension: Dimension,
+    code: u32,
+    codes: &mut Vec<u32>,
+) -> Result<(), Memory>
     ensures { OnOk result (codes.new.items
-        ≡ (if not (length (children (slice_index_or book.now.trees variable []) code) == 0)
+        ≡ (if not (length (children_within (cut_tree book.now.trees dimension) code) == 0)
         then codes.old.items ++ code ∷ [] else codes.old.items)) }
 {
-    if has_children(book, variable, code) {
+    if has_children(book, dimension, code) {
         codes.push(code)?;
     }
     Ok(())
@@ -97,9 +102,9 @@ fn add_choices(
     Ok(())
 }
 
-// Whether a code of a variable has children.
-fn has_children(book: &Book, variable: u32, code: u32) -> bool
-    ensures { result ≡ not (length (children (slice_index_or book.now.trees variable []) code) == 0) }
+// Whether a code of a variable has children in a table that spans it so.
+fn has_children(book: &Book, dimension: Dimension, code: u32) -> bool
+    ensures { result ≡ not (length (children_within (cut_tree book.now.trees dimension) code) == 0) }
 {
-    book.first_child(variable, code).is_some()
+    book.first_child_within(dimension, code).is_some()
 }

@@ -7,6 +7,7 @@ use Rattle.sdc_base.specs.Cells.{places, trees_of}
 use Rattle.sdc_base.specs.Records.{Name}
 use Rattle.sdc_base.specs.TableText.{line_text}
 use Rattle.sdc_base.specs.Trees.{Tree}
+use Rattle.sdc_base.specs.declared.dimension.Dimension.{Dimension}
 use Rattle.sdc_base.specs.declared.cell.Cell.{Cell}
 use Rattle.apriori.specs.Settling.{SettledCell, view_of_cell}
 use Rattle.linked_tables.specs.BookViews.{BookView}
@@ -28,45 +29,45 @@ use Rattle.published_tables.specs.HiddenLines.{flags_in, lines_read}
 use Rattle.published_tables.specs.ShownValues.{values_read}
 
 -- a book by its parts
-abbrev held : List Tree → List (List ℕ) → List Mark → BookView
+abbrev held : List Tree → List (List Dimension) → List Mark → BookView
 held trees tables marks = record { trees = trees; tables = tables; marks = marks }
 
 -- table t of a release that hides cells or rounds
-abbrev form : BookView → Bool → ℕ → List ℕ → ℕ → Template
+abbrev form : BookView → Bool → ℕ → List Dimension → ℕ → Template
 form book rounded t table decimals = record { book = book; t = t; table = table; decimals = decimals; rounded = rounded }
 
 -- the marks of two books have the same truths
 abbrev HaveSameTruths : List Mark → List Mark → Type 0
 HaveSameTruths ones others = (cell : ℕ) → truth_of ones cell ≡ truth_of others cell
 
-same_value : (trees : List Tree) (tables : List (List ℕ)) (ones others : List Mark) (rounded : Bool) (t : ℕ) (table : List ℕ) (decimals : ℕ) (place bytes : List ℕ) (cell : ℕ) (shown : Option (Option ℤ)) → HaveSameTruths ones others
+same_value : (trees : List Tree) (tables : List (List Dimension)) (ones others : List Mark) (rounded : Bool) (t : ℕ) (table : List Dimension) (decimals : ℕ) (place bytes : List ℕ) (cell : ℕ) (shown : Option (Option ℤ)) → HaveSameTruths ones others
     → value_there (form (held trees tables ones) rounded t table decimals) place bytes cell shown ≡ value_there (form (held trees tables others) rounded t table decimals) place bytes cell shown
 same_value trees tables ones others true t table decimals place bytes cell None same = refl
 same_value trees tables ones others false t table decimals place bytes cell None same = rw (same cell) refl
 same_value trees tables ones others rounded t table decimals place bytes cell (Some value) same = refl
 
-same_place : (trees : List Tree) (tables : List (List ℕ)) (ones others : List Mark) (rounded : Bool) (t : ℕ) (table : List ℕ) (decimals : ℕ) (reading : ReleaseSoFar) (place : List ℕ) → HaveSameTruths ones others
+same_place : (trees : List Tree) (tables : List (List Dimension)) (ones others : List Mark) (rounded : Bool) (t : ℕ) (table : List Dimension) (decimals : ℕ) (reading : ReleaseSoFar) (place : List ℕ) → HaveSameTruths ones others
     → read_place (form (held trees tables ones) rounded t table decimals) reading place ≡ read_place (form (held trees tables others) rounded t table decimals) reading place
 unfolding read_place
 same_place trees tables ones others rounded t table decimals reading place same =
     bind_same (or_fault (t, reading.line) (number_of (held trees tables ones) (name_in_table (held trees tables ones) table place))) _ _
     (λ cell. rw (same_value trees tables ones others rounded t table decimals place reading.rest cell (slice_get reading.shown cell) same) refl)
 
-same_places : (trees : List Tree) (tables : List (List ℕ)) (ones others : List Mark) (rounded : Bool) (t : ℕ) (table : List ℕ) (decimals : ℕ) (reading : ReleaseSoFar) (all : List (List ℕ)) → HaveSameTruths ones others
+same_places : (trees : List Tree) (tables : List (List Dimension)) (ones others : List Mark) (rounded : Bool) (t : ℕ) (table : List Dimension) (decimals : ℕ) (reading : ReleaseSoFar) (all : List (List ℕ)) → HaveSameTruths ones others
     → read_places (form (held trees tables ones) rounded t table decimals) reading all ≡ read_places (form (held trees tables others) rounded t table decimals) reading all
 same_places trees tables ones others rounded t table decimals reading [] same = refl
 same_places trees tables ones others rounded t table decimals reading (place ∷ rest) same =
     rw (same_place trees tables ones others rounded t table decimals reading place same)
     (bind_same (read_place (form (held trees tables others) rounded t table decimals) reading place) _ _ (λ next. same_places trees tables ones others rounded t table decimals next rest same))
 
-same_table : (trees : List Tree) (tables : List (List ℕ)) (ones others : List Mark) (rounded : Bool) (t : ℕ) (table : List ℕ) (decimals : ℕ) (names : List (List ℕ)) (bytes : List ℕ) (shown : List (Option ℤ)) → HaveSameTruths ones others
+same_table : (trees : List Tree) (tables : List (List Dimension)) (ones others : List Mark) (rounded : Bool) (t : ℕ) (table : List Dimension) (decimals : ℕ) (names : List (List ℕ)) (bytes : List ℕ) (shown : List (Option ℤ)) → HaveSameTruths ones others
     → read_table (form (held trees tables ones) rounded t table decimals) names bytes shown ≡ read_table (form (held trees tables others) rounded t table decimals) names bytes shown
 unfolding read_table
 same_table trees tables ones others rounded t table decimals names bytes shown same =
     bind_same (or_fault (t, 1) (rest_behind (line_text names) bytes)) _ _
     (λ rest. rw (same_places trees tables ones others rounded t table decimals (record { shown = shown; rest = rest; line = 2 }) (places (trees_of trees table)) same) refl)
 
-same_tables : (trees : List Tree) (tables : List (List ℕ)) (ones others : List Mark) (rounded : Bool) (decimals t : ℕ) (some : List (List ℕ)) (names : List (List (List ℕ))) (files : List (List ℕ)) (shown : List (Option ℤ)) → HaveSameTruths ones others
+same_tables : (trees : List Tree) (tables : List (List Dimension)) (ones others : List Mark) (rounded : Bool) (decimals t : ℕ) (some : List (List Dimension)) (names : List (List (List ℕ))) (files : List (List ℕ)) (shown : List (Option ℤ)) → HaveSameTruths ones others
     → read_tables (held trees tables ones) decimals rounded t some names files shown ≡ read_tables (held trees tables others) decimals rounded t some names files shown
 unfolding read_tables
 same_tables trees tables ones others rounded decimals t [] names files shown same = refl

@@ -4,6 +4,7 @@ use Rattle.std.specs.Prelude.{All}
 use Rattle.std.proofs.lemmas.List.Elements.{All-nil, All-cons, All-head, All-tail, All-weaker}
 use Rattle.std.proofs.lemmas.List.{length-map}
 use Rattle.sdc_base.specs.declared.cell.Cell.{Cell}
+use Rattle.sdc_base.specs.declared.dimension.Dimension.{Dimension}
 use Rattle.sdc_base.specs.Truths.{IsTruth}
 use Rattle.linked_tables.specs.declared.mark.Mark.{Mark}
 use Rattle.release_writer.specs.Sheets.{HaveNames, HasTruthsFromZero}
@@ -46,6 +47,6 @@ pub each_table : (shelved : ShelvedJob) → IsReadyShelved shelved → length sh
 each_table shelved ready =
     let job = ready.job.sound in
     let many = names-each shelved.job.described.bound.tables shelved.job.described.job.tables job.bound.tables in
-    let same = ap (λ (tables : List (List ℕ)). length tables) ready.job.book.tables in
+    let same = ap (λ (tables : List (List Dimension)). length tables) ready.job.book.tables in
     let lines = length-map shelved.job.described.job.tables names_of in
     omega (arith, ready.tables, job.job.outputs, many, same, lines)

@@ -1,21 +1,20 @@
 -- How often the relation of a cell for a variable counts a cell: once as its total, less once as a part.
-use Rattle.std.proofs.Common.{◌≡◌, ◌≢◌, ◌⊎◌, inl, inr, ℕ, zero, suc, ◌+◌, ◌<◌, ◌≤◌, ◌==◌, ◌&&◌, ◌||◌, not, Bool, true, false, cond, List, [], ◌∷◌, length, filter, slice_get, slice_index, slice_index_or, slice_set, bytes_eq, if◌then◌else◌, Option, None, Some, All, ℤ, pos, negsuc, neg_ℤ, ◌+ℤ◌, arith, refl, ap, sym, ◌∙◌, subst}
-use Rattle.std.specs.List.{cons_option, count_by, filter_map, list_any, range_with_len, IsDistinct}
+use Rattle.std.proofs.Common.{◌≡◌, ◌⊎◌, inl, inr, ℕ, zero, suc, ◌+◌, ◌<◌, ◌≤◌, ◌==◌, ◌&&◌, not, Bool, true, false, cond, List, [], ◌∷◌, length, filter, slice_get, slice_index, slice_index_or, slice_set, bytes_eq, if◌then◌else◌, Option, None, Some, ℤ, pos, negsuc, neg_ℤ, ◌+ℤ◌, arith, refl, ap, sym, ◌∙◌, subst}
+use Rattle.std.specs.List.{cons_option, count_by, range_with_len, IsDistinct}
 use Rattle.std.specs.Option.{option_map_or}
-use Rattle.std.proofs.lemmas.Bool.{eq-eqb, ne_eqb, eqb-true, eqb-false}
+use Rattle.std.proofs.lemmas.Bool.{eqb-true}
 use Rattle.std.proofs.lemmas.Int.{ints}
-use Rattle.std.proofs.lemmas.List.{get_or-set_same, get_or-set_other}
+use Rattle.std.proofs.lemmas.List.{get_or-set_same}
 use Rattle.std.proofs.lemmas.List.Sums.{sum_by-cons}
-use Rattle.sdc_base.specs.Trees.{Tree, IsCodeTree, children, is_child, parent_at}
+use Rattle.sdc_base.specs.Trees.{Tree, IsCodeTree, is_child, parent_at}
 use Rattle.sdc_base.specs.Records.{Name}
-use Rattle.sdc_base.specs.Cells.{cells_of, is_named, named_by, spans}
+use Rattle.sdc_base.specs.Cells.{cells_of}
 use Rattle.sdc_base.specs.Relations.{Sum, codes_below, is_spanned, number_among, parts_among, relation_for}
 use Rattle.sdc_base.specs.Forms.{count_of}
+use Rattle.sdc_base.specs.declared.dimension.Dimension.{Dimension}
 use Rattle.sdc_base.specs.declared.relation.Relation.{Relation}
 use Rattle.sdc_base.proofs.Counted.{counted_is}
-use Rattle.sdc_base.proofs.GrowingLists.{read-at}
 use Rattle.sdc_base.proofs.Walks.{parent_is_earlier}
-use Rattle.sdc_base.proofs.FirstNames.{names_are_first}
 use Rattle.linked_tables.proofs.Finding.{found-name}
 use Rattle.linked_tables.proofs.Guessing.{found-where}
 
@@ -111,19 +110,19 @@ parts-once cells tree name variable above cell start (suc n) inside =
 -- ---- what a relation counts
 
 -- the relation of a cell for a variable
-pub record IsRelationFor (trees : List Tree) (tables : List (List ℕ)) (number variable : ℕ) (r : Relation) : Type 0 where
+pub record IsRelationFor (trees : List Tree) (tables : List (List Dimension)) (number variable : ℕ) (r : Relation) : Type 0 where
   pub cell_known : number < length (cells_of trees tables)
   pub variable_known : variable < length trees
   pub is : relation_for trees tables number (slice_index_or (cells_of trees tables) number []) variable ≡ Some (r.total, r.parts)
 
 -- what there is of it: the table, a child, its total and its parts
-pub record IsMade (trees : List Tree) (tables : List (List ℕ)) (number variable : ℕ) (name : Name) (r : Relation) : Type 0 where
+pub record IsMade (trees : List Tree) (tables : List (List Dimension)) (number variable : ℕ) (name : Name) (r : Relation) : Type 0 where
   pub spanned : is_spanned trees tables name variable ≡ true
   pub child : (code : ℕ) × (parent_at (slice_index_or trees variable []) code ≡ Some (slice_index name variable))
   pub total_is : r.total ≡ number
   pub parts_are : r.parts ≡ parts_among (cells_of trees tables) name variable (codes_below trees name variable)
 
-pub made : (trees : List Tree) (tables : List (List ℕ)) (number variable : ℕ) (name : Name) (r : Relation) → relation_for trees tables number name variable ≡ Some (r.total, r.parts) → IsMade trees tables number variable name r
+pub made : (trees : List Tree) (tables : List (List Dimension)) (number variable : ℕ) (name : Name) (r : Relation) → relation_for trees tables number name variable ≡ Some (r.total, r.parts) → IsMade trees tables number variable name r
 made trees tables number variable name r is = by (is_spanned trees tables name variable) (not (length (codes_below trees name variable) == 0)) refl refl is
   where
     tree : Tree
@@ -149,7 +148,7 @@ made trees tables number variable name r is = by (is_spanned trees tables name v
 abbrev pub Counts : List Name → Tree → Name → ℕ → ℕ → ℕ → ℤ → Type 0
 Counts cells tree name number variable cell z = (z ≡ pos 0) ⊎ (((z ≡ pos 1) × (cell ≡ number)) ⊎ ((z ≡ negsuc 0) × IsPart cells tree name variable cell))
 
-pub counts : (trees : List Tree) (tables : List (List ℕ)) (number variable cell : ℕ) (name : Name) (r : Relation) → IsCodeTree (slice_index_or trees variable []) → variable < length name → slice_get (cells_of trees tables) number ≡ Some name → IsMade trees tables number variable name r
+pub counts : (trees : List Tree) (tables : List (List Dimension)) (number variable cell : ℕ) (name : Name) (r : Relation) → IsCodeTree (slice_index_or trees variable []) → variable < length name → slice_get (cells_of trees tables) number ≡ Some name → IsMade trees tables number variable name r
     → Counts (cells_of trees tables) (slice_index_or trees variable []) name number variable cell (count_of r cell)
 counts trees tables number variable cell name r good inside at is =
     let whole : count_of r cell ≡ (if number == cell then pos 1 else pos 0) +ℤ neg_ℤ (pos (count_by (λ part. part == cell) parts)) =

@@ -1,21 +1,20 @@
 -- The relations of a book hold on the truths of its marks.
-use Rattle.std.proofs.Common.{◌≡◌, ◌≢◌, ℕ, zero, suc, ◌+◌, ◌-◌, ◌<◌, ◌≤◌, ◌==◌, ◌&&◌, not, Bool, true, false, cond, List, [], ◌∷◌, ◌++◌, length, map, filter, slice_get, slice_index, slice_index_or, slice_set, is_some, bytes_eq, ◌||◌, if◌then◌else◌, All, Option, None, Some, arith, refl, ap, sym, ◌∙◌, subst, ℤ, pos, ◌+ℤ◌, ◌-ℤ◌}
+use Rattle.std.proofs.Common.{◌≡◌, ◌≢◌, ℕ, zero, suc, ◌+◌, ◌-◌, ◌<◌, ◌≤◌, ◌==◌, ◌&&◌, not, Bool, true, false, cond, List, [], ◌∷◌, length, map, filter, slice_get, slice_index, slice_index_or, slice_set, is_some, bytes_eq, ◌||◌, if◌then◌else◌, All, Option, None, Some, arith, refl, ap, sym, ◌∙◌, subst, ℤ, pos, ◌+ℤ◌, ◌-ℤ◌}
 use Rattle.std.specs.List.{list_any, cons_option, filter_map, flat_map, range_with_len}
 use Rattle.std.specs.Option.{option_map_or}
-use Rattle.std.proofs.lemmas.Bool.Decides.{Decides-eqb, nat_tests}
 use Rattle.std.proofs.lemmas.Int.{ints}
-use Rattle.std.proofs.lemmas.List.{get_or_default}
 use Rattle.std.proofs.lemmas.List.Elements.{All-append, All-cons, All-head, All-tail}
 use Rattle.std.proofs.lemmas.Slice.Eq.{bytes_eq-Decides}
-use Rattle.std.proofs.lemmas.Option.{slice_get_within, slice_get_read, get_or_from_slice_get}
-use Rattle.sdc_base.specs.Trees.{Tree, children}
+use Rattle.std.proofs.lemmas.Option.{slice_get_within, get_or_from_slice_get}
+use Rattle.sdc_base.specs.Trees.{is_child}
 use Rattle.sdc_base.specs.Records.{Name}
 use Rattle.sdc_base.specs.Cells.{is_named, named_by}
 use Rattle.sdc_base.specs.Relations.{Sum, codes_below, is_spanned, number_among, parts_among, relation_for, relations_for, relations_among}
 use Rattle.sdc_base.specs.Sums.{truth}
-use Rattle.sdc_base.specs.Systems.{Numbers, HoldOn}
+use Rattle.sdc_base.specs.Systems.{HoldOn}
 use Rattle.sdc_base.specs.Totals.{sum_of}
 use Rattle.sdc_base.specs.AddingUp.{IsCoded}
+use Rattle.sdc_base.specs.declared.dimension.Dimension.{Dimension}
 use Rattle.sdc_base.specs.declared.relation.Relation.{Relation}
 use Rattle.sdc_base.specs.declared.rows.Row.{Row}
 use Rattle.sdc_base.proofs.AddingUp.{tables_add_up}
@@ -32,14 +31,14 @@ use Rattle.relations.proofs.Tables.{cell-of_trees, spanned-other}
 
 -- ---- what holds of all of a list
 
--- the numbers of a stretch that pass a test stay below its end
-below-end : (test : ℕ → Bool) (start n bound : ℕ) → start + n ≤ bound → All (λ k. k < bound) (filter test (range_with_len start n))
-below-end test start zero bound h = all-nothing (λ k. k < bound)
-below-end test start (suc n) bound h =
-    elim (test start) as (λ b. All (λ k. k < bound) (cond b (start ∷ filter test (range_with_len (start + 1) n)) (filter test (range_with_len (start + 1) n)))) [
-      | true ↦ All-cons (λ k. k < bound) start (filter test (range_with_len (start + 1) n)) (omega (arith, h)) (below-end test (start + 1) n bound (omega (arith, h)))
-      | false ↦ below-end test (start + 1) n bound (omega (arith, h))
-    ]
+-- what is kept passes the test
+all-kept : (test : ℕ → Bool) (list : List ℕ) → All (λ k. test k ≡ true) (filter test list)
+all-kept test [] = all-nothing (λ k. test k ≡ true)
+all-kept test (k ∷ list) =
+    elim (test k) as (λ b. test k ≡ b → All (λ one. test one ≡ true) (cond b (k ∷ filter test list) (filter test list))) [
+      | true ↦ λ is. All-cons (λ one. test one ≡ true) k (filter test list) is (all-kept test list)
+      | false ↦ λ _. all-kept test list
+    ] refl
 
 all-found : {X : Type 0} (P : X → Type 0) (f : ℕ → Option X) (start n bound : ℕ) → start + n ≤ bound → ((k : ℕ) (x : X) → k < bound → f k ≡ Some x → P x) → All P (filter_map f (range_with_len start n))
 all-found P f start zero bound h each = all-nothing P
@@ -83,7 +82,7 @@ at-named names k name at = among names k at
         either true = refl
         either false = refl
 
-pub tables-of : (book : BookView) → IsBook book → (t : ℕ) (table : List ℕ) → slice_get book.tables t ≡ Some table → IsTable (length book.trees) table
+pub tables-of : (book : BookView) → IsBook book → (t : ℕ) (table : List Dimension) → slice_get book.tables t ≡ Some table → IsTable (length book.trees) table
 tables-of book is t table at = subst (IsTable (length book.trees)) (get_or_from_slice_get book.tables t table table at) (is.tables t table (slice_get_within book.tables t table at))
 
 -- the number of a cell leads to its truth
@@ -104,14 +103,15 @@ truth-is book rows cell name is true_ at =
 -- ---- one relation
 
 parts-sum : (book : BookView) (rows : List Row) (name : Name) (variable : ℕ) (codes : List ℕ) → IsBook book → AreTruths book rows → list_any (has_spanned book.trees name variable) book.tables ≡ true
-    → All (λ code. code < length (slice_index_or book.trees variable [])) codes
+    → All (λ code. is_child (slice_index_or book.trees variable []) (slice_index name variable) code ≡ true) codes
     → sum_of (truth_at book.marks) (parts_among (cells book) name variable codes) ≡ sum_of (λ code. truth book.trees (slice_set name variable code) rows) codes
 parts-sum book rows name variable [] is told spanned inside = refl
 parts-sum book rows name variable (code ∷ codes) is told spanned inside =
-    let here : code < length (slice_index_or book.trees variable []) = All-head (λ (code : ℕ). code < length (slice_index_or book.trees variable [])) code codes inside in
-    let rest = parts-sum book rows name variable codes is told spanned (All-tail (λ (code : ℕ). code < length (slice_index_or book.trees variable [])) code codes inside) in
+    let IsBelow : ℕ → Type 0 = λ (code : ℕ). is_child (slice_index_or book.trees variable []) (slice_index name variable) code ≡ true in
+    let here : IsBelow code = All-head IsBelow code codes inside in
+    let rest = parts-sum book rows name variable codes is told spanned (All-tail IsBelow code codes inside) in
     let other = slice_set name variable code in
-    let among : is_named (cells book) other ≡ true = names_are_first.all (flat_map (named_by book.trees) book.tables) other ∙ spanned-other book.trees book.tables name variable code (tables-of book is) spanned here in
+    let among : is_named (cells book) other ≡ true = names_are_first.all (flat_map (named_by book.trees) book.tables) other ∙ spanned-other book.trees book.tables name variable code is.trees (tables-of book is) spanned here in
     let part = some-of (number_among (cells book) other) (named-found (cells book) other ∙ among) in
     let its : truth_at book.marks part.0 ≡ truth book.trees other rows = truth-is book rows part.0 other is told (found-name (cells book) other part.0 part.1) in
     ap (λ found. sum_of (truth_at book.marks) (cons_option found (parts_among (cells book) name variable codes))) part.1
@@ -140,7 +140,7 @@ one-holds book rows cell name variable sum is coded bare told at known = by (is_
         let up : truth book.trees name rows ≡ sum_of (λ code. truth book.trees (slice_set name variable code) rows) codes =
         tables_add_up book.trees rows name variable is.trees coded of.long known (λ k d h. bare k d h variable known) any
         in
-        let inside : All (λ code. code < length (slice_index_or book.trees variable [])) codes = below-end _ 0 (length (slice_index_or book.trees variable [])) (length (slice_index_or book.trees variable [])) (omega arith) in
+        let inside : All (λ code. is_child (slice_index_or book.trees variable []) (slice_index name variable) code ≡ true) codes = all-kept (is_child (slice_index_or book.trees variable []) (slice_index name variable)) (range_with_len 0 (length (slice_index_or book.trees variable []))) in
         let parts = parts-sum book rows name variable codes is told spanned inside in
         let total : truth_at book.marks cell ≡ truth book.trees name rows = truth-is book rows cell name is told at in
         omega (arith, ints, up, parts, total)

@@ -1,19 +1,22 @@
--- Signs for the relations of one table of one variable, and of two flat ones.
-use Rattle.std.proofs.Common.{◌≡◌, ◌≢◌, ◌⊎◌, inl, inr, ℕ, ◌<◌, ◌==◌, ◌&&◌, ◌||◌, not, Bool, true, false, List, [], ◌∷◌, length, map, slice_get, slice_index, slice_index_or, slice_set, bytes_eq, if◌then◌else◌, Option, None, Some, option_map, ℤ, pos, negsuc, neg_ℤ, arith, refl, ap, sym, ◌∙◌, subst}
-use Rattle.std.specs.List.{list_any, flat_map, IsDistinct}
+-- Signs for the relations of one table of one variable, and of two that it has flat.
+use Rattle.std.proofs.Common.{◌≡◌, ◌≢◌, ◌⊎◌, inl, inr, ℕ, ◌<◌, ◌==◌, ◌&&◌, ◌||◌, not, Bool, true, false, List, [], ◌∷◌, length, map, slice_get, slice_index, slice_index_or, slice_set, bytes_eq, if◌then◌else◌, Option, None, Some, option_map, ℤ, pos, negsuc, arith, refl, ap, sym, ◌∙◌, subst}
+use Rattle.std.specs.List.{flat_map, IsDistinct}
 use Rattle.std.specs.Option.{option_map_or}
-use Rattle.std.proofs.lemmas.Bool.{eq-eqb, ne_eqb, eqb-true, eqb-false}
+use Rattle.std.proofs.lemmas.Bool.{eq-eqb, ne_eqb, eqb-true}
 use Rattle.std.proofs.lemmas.Int.{ints}
 use Rattle.std.proofs.lemmas.List.{get_or-set_same, get_or-set_other, length-map}
 use Rattle.std.proofs.lemmas.Option.{slice_get-map}
 use Rattle.sdc_base.specs.Trees.{Tree, IsCodeTree, parent_at}
+use Rattle.sdc_base.specs.CutTrees.{goes_below}
 use Rattle.sdc_base.specs.Records.{Name}
-use Rattle.sdc_base.specs.Cells.{cells_of, is_named, named_by, spans}
-use Rattle.sdc_base.specs.Relations.{Sum, is_spanned, relation_for, relations_among}
+use Rattle.sdc_base.specs.Cells.{cut_tree, is_named, named_by}
+use Rattle.sdc_base.specs.Relations.{Sum, is_spanned, relation_for, spans_below}
 use Rattle.sdc_base.specs.Forms.{count_of}
-use Rattle.sdc_base.specs.Signs.{AreSigns, times_counted, sign_of, number_with_sign, signed_count}
+use Rattle.sdc_base.specs.Signs.{sign_of, number_with_sign, signed_count}
+use Rattle.sdc_base.specs.declared.dimension.Dimension.{Dimension}
 use Rattle.sdc_base.specs.declared.relation.Relation.{Relation}
 use Rattle.sdc_base.specs.declared.system.System.{System}
+use Rattle.sdc_base.proofs.CutTrees.{child-within}
 use Rattle.sdc_base.proofs.GrowingLists.{read-at}
 use Rattle.sdc_base.proofs.ListReads.{read-some}
 use Rattle.sdc_base.proofs.Walks.{parent_is_earlier}
@@ -25,7 +28,7 @@ use Rattle.relations.specs.Holding.{IsSystemOf, sum_in}
 use Rattle.relations.specs.TableSigns.{HaveSigns, IsFlat, IsOneOrTwoWay, OneOrTwoWayHasSigns, OneVariableHasSigns, TwoFlatVariablesHaveSigns}
 use Rattle.relations.proofs.Holding.{at-named, tables-of}
 use Rattle.relations.proofs.Tables.{cell-of_trees}
-use Rattle.relations.proofs.Keyed.{items, keyed, keyed-at, map-keyed, item_place}
+use Rattle.relations.proofs.Keyed.{keyed, keyed-at, map-keyed, item_place}
 use Rattle.relations.proofs.CellCounts.{Counts, IsMade, IsPart, IsRelationFor, counts, made, one-number, set-back, set-itself}
 
 some-same : {X : Type 0} {a b : X} → Some a ≡ Some b → a ≡ b
@@ -180,18 +183,15 @@ signed-by book system plus is of alone = (
 
 -- ---- one variable
 
-spanned-one : (table : List ℕ) (variable : ℕ) (named : Bool) → ((spans table variable && named) || false) ≡ true → spans table variable ≡ true
-spanned-one table variable named h = by (spans table variable) h
-  where
-    by : (b : Bool) → ((b && named) || false) ≡ true → b ≡ true
-    by true h = refl
-    by false h = cc
+spanned-one : (below named : Bool) → ((below && named) || false) ≡ true → below ≡ true
+spanned-one true named h = refl
+spanned-one false named h = cc
 
--- the table of a book with one table spans each variable that there is a relation for
-spans-it : (book : BookView) (table : List ℕ) (number variable cell : ℕ) (r : Relation) → book.tables ≡ table ∷ [] → IsKnown book number variable cell r → spans table variable ≡ true
+-- the table of a book with one table goes below the code of each cell and variable that there is a relation for
+spans-it : (book : BookView) (table : List Dimension) (number variable cell : ℕ) (r : Relation) → book.tables ≡ table ∷ [] → IsKnown book number variable cell r → spans_below book.trees variable (slice_index (name_in book number) variable) table ≡ true
 spans-it book table number variable cell r one is =
-    spanned-one table variable (is_named (named_by book.trees table) (name_in book number))
-    (subst (λ (tables : List (List ℕ)). is_spanned book.trees tables (name_in book number) variable ≡ true) one is.is_made.spanned)
+    spanned-one (spans_below book.trees variable (slice_index (name_in book number) variable) table) (is_named (named_by book.trees table) (name_in book number))
+    (subst (λ (tables : List (List Dimension)). is_spanned book.trees tables (name_in book number) variable ≡ true) one is.is_made.spanned)
 
 -- two cells with children of which a cell is one have one name
 same-above : (cells : List Name) (tree : Tree) (one other : Name) (variable cell : ℕ) → variable < length one → variable < length other → IsPart cells tree one variable cell → IsPart cells tree other variable cell → one ≡ other
@@ -217,20 +217,23 @@ same-total book one other variable cell r s z first second some is also = by fir
         let name = same-above (cells book) (tree_of book variable) (name_in book one) (name_in book other) variable cell first.inside second.inside a.1 b.1 in
         one-number (cells book) one other (name_in book one) (once-cells book) first.at (second.at ∙ ap Some (sym name))
 
-only : (variable one : ℕ) → spans (variable ∷ []) one ≡ true → variable ≡ one
-only variable one h = eqb-true variable one (by (variable == one) h)
+only : (trees : List Tree) (dimension : Dimension) (one code : ℕ) → spans_below trees one code (dimension ∷ []) ≡ true → dimension.variable ≡ one
+only trees dimension one code h = eqb-true dimension.variable one (by (dimension.variable == one) (goes_below (cut_tree trees dimension) code) h)
   where
-    by : (b : Bool) → (b || false) ≡ true → b ≡ true
-    by true h = refl
-    by false h = cc
+    by : (a b : Bool) → ((a && b) || false) ≡ true → a ≡ true
+    by true b h = refl
+    by false b h = cc
 
 pub one_variable_has_signs : OneVariableHasSigns
-one_variable_has_signs book variable system is one of =
+one_variable_has_signs book dimension system is one of =
     signed-by book system (λ _ _. true) is of
     (λ cell c v d w r s z first second some a b.
     let here = known book c v cell r is first in
     let there = known book d w cell s is second in
-    let same : v ≡ w = sym (only variable v (spans-it book (variable ∷ []) c v cell r one here)) ∙ only variable w (spans-it book (variable ∷ []) d w cell s one there) in
+    let same : v ≡ w =
+    sym (only book.trees dimension v (slice_index (name_in book c) v) (spans-it book (dimension ∷ []) c v cell r one here))
+    ∙ only book.trees dimension w (slice_index (name_in book d) w) (spans-it book (dimension ∷ []) d w cell s one there)
+    in
     (same-total book c d v cell r s z here (subst (λ (u : ℕ). IsKnown book d u cell s) (sym same) there) some a b, same))
 
 -- ---- two flat variables
@@ -296,14 +299,11 @@ part-sign book a b number variable code apart (inr is) inside some =
     let there : slice_index (slice_set name variable code) a ≡ slice_index name a = get_or-set_other name variable a code 0 (λ same. apart (same ∙ is)) in
     rw (along, test, there) (part-second (slice_index name a == 0))
 
-on-line : (book : BookView) (a b number variable cell : ℕ) (r : Relation) → a ≢ b → (variable ≡ a) ⊎ (variable ≡ b) → IsFlat (tree_of book variable) → IsKnown book number variable cell r → count_of r cell ≢ pos 0 → IsOnLine book a b number variable cell r
-on-line book a b number variable cell r apart two flat is some = by is.each
+on-line : (book : BookView) (a b number variable cell : ℕ) (r : Relation) → a ≢ b → (variable ≡ a) ⊎ (variable ≡ b) → slice_index (name_in book number) variable ≡ 0 → IsKnown book number variable cell r → count_of r cell ≢ pos 0 → IsOnLine book a b number variable cell r
+on-line book a b number variable cell r apart two none is some = by is.each
   where
     name : Name
     name = name_in book number
-
-    none : slice_index name variable ≡ 0
-    none = flat is.is_made.child.0 (slice_index name variable) is.is_made.child.1
 
     by : Counts (cells book) (tree_of book variable) name number variable cell (count_of r cell) → IsOnLine book a b number variable cell r
     by (inl zero) = absurd (some zero)
@@ -349,59 +349,75 @@ signed-zero : (sign : Bool) (z : ℤ) → z ≡ pos 0 → number_with_sign sign 
 signed-zero true z h = h
 signed-zero false z h = omega (arith, ints, h)
 
-of-two : (a b variable : ℕ) → spans (a ∷ b ∷ []) variable ≡ true → (variable ≡ a) ⊎ (variable ≡ b)
-of-two a b variable h =
-    elim (a == variable) as (λ t. (a == variable) ≡ t → (t || ((b == variable) || false)) ≡ true → (variable ≡ a) ⊎ (variable ≡ b)) [
-      | true ↦ λ is _. inl (sym (eqb-true a variable is))
-      | false ↦ λ _ rest. inr (sym (eqb-true b variable (by (b == variable) rest)))
-    ] refl h
+-- one of two dimensions is of the variable, and goes below the code
+of-two : (trees : List Tree) (a b : Dimension) (variable code : ℕ) → spans_below trees variable code (a ∷ b ∷ []) ≡ true
+    → ((variable ≡ a.variable) × (goes_below (cut_tree trees a) code ≡ true)) ⊎ ((variable ≡ b.variable) × (goes_below (cut_tree trees b) code ≡ true))
+of-two trees a b variable code h = by (a.variable == variable) (goes_below (cut_tree trees a) code) (b.variable == variable) (goes_below (cut_tree trees b) code) refl refl refl refl h
   where
-    by : (t : Bool) → (t || false) ≡ true → t ≡ true
-    by true h = refl
-    by false h = cc
+    by : (x u y v : Bool) → (a.variable == variable) ≡ x → goes_below (cut_tree trees a) code ≡ u → (b.variable == variable) ≡ y → goes_below (cut_tree trees b) code ≡ v → ((x && u) || ((y && v) || false)) ≡ true
+        → ((variable ≡ a.variable) × (goes_below (cut_tree trees a) code ≡ true)) ⊎ ((variable ≡ b.variable) × (goes_below (cut_tree trees b) code ≡ true))
+    by true true y v is goes also too h = inl (sym (eqb-true a.variable variable is), goes)
+    by true false true true is goes also too h = inr (sym (eqb-true b.variable variable also), too)
+    by true false true false is goes also too h = cc
+    by true false false v is goes also too h = cc
+    by false u true true is goes also too h = inr (sym (eqb-true b.variable variable also), too)
+    by false u true false is goes also too h = cc
+    by false u false v is goes also too h = cc
+
+-- a code above which a flat tree has codes is the total's
+flat-total : (book : BookView) (a : Dimension) (variable child above : ℕ) → IsFlat (cut_tree book.trees a) → IsCodeTree (tree_of book variable) → variable ≡ a.variable → goes_below (cut_tree book.trees a) above ≡ true → parent_at (tree_of book variable) child ≡ Some above → above ≡ 0
+flat-total book a variable child above flat good same goes up =
+    let tree : IsCodeTree (cut_tree book.trees a).tree = subst (λ (v : ℕ). IsCodeTree (tree_of book v)) same good in
+    let parent : parent_at (cut_tree book.trees a).tree child ≡ Some above = subst (λ (v : ℕ). parent_at (tree_of book v) child ≡ Some above) same up in
+    flat child above (sym (child-within (cut_tree book.trees a) tree child above parent) ∙ goes) parent
 
 -- a table has two variables only where they differ
-two-apart : (a b : ℕ) → has_twice (a ∷ b ∷ []) ≡ false → a ≢ b
-two-apart a b h same = let test : (b == a) ≡ true = eq-eqb b a (sym same) in clash (rw test at h)
+two-apart : (a b : Dimension) → has_twice (a ∷ b ∷ []) ≡ false → a.variable ≢ b.variable
+two-apart a b h same = let test : (b.variable == a.variable) ≡ true = eq-eqb b.variable a.variable (sym same) in clash (rw test at h)
   where
     clash : true ≡ false → ⊥
     clash h = absurd cc
 
 pub two_flat_variables_have_signs : TwoFlatVariablesHaveSigns
 two_flat_variables_have_signs book a b system is one flat_first flat_second of =
-    signed-by book system (plus_in book a b) is of
+    signed-by book system (plus_in book a.variable b.variable) is of
     (λ cell c v d w r s z first second some left right.
     let here = known book c v cell r is first in
     let there = known book d w cell s is second in
-    let v_is = of-two a b v (spans-it book (a ∷ b ∷ []) c v cell r one here) in
-    let w_is = of-two a b w (spans-it book (a ∷ b ∷ []) d w cell s one there) in
-    let up = on-line book a b c v cell r apart v_is (flat v v_is) here (λ none. some (sym left ∙ signed-zero (plus_in book a b c v) (count_of r cell) none)) in
-    let down = on-line book a b d w cell s apart w_is (flat w w_is) there (λ none. some (sym right ∙ signed-zero (plus_in book a b d w) (count_of s cell) none)) in
+    let v_is = which c v cell r here in
+    let w_is = which d w cell s there in
+    let up = on-line book a.variable b.variable c v cell r apart v_is.0 v_is.1 here (λ none. some (sym left ∙ signed-zero (plus_in book a.variable b.variable c v) (count_of r cell) none)) in
+    let down = on-line book a.variable b.variable d w cell s apart w_is.0 w_is.1 there (λ none. some (sym right ∙ signed-zero (plus_in book a.variable b.variable d w) (count_of s cell) none)) in
     let name : up.name ≡ down.name = some-same (sym up.at ∙ down.at) in
-    let alike : sign_along up.name a b v ≡ sign_along up.name a b w =
-    signed-alike (sign_along up.name a b v) (sign_along up.name a b w)
-    (sym up.sign ∙ left ∙ sym right ∙ down.sign ∙ ap (λ (n : Name). number_with_sign (sign_along n a b w) (pos 1)) (sym name))
+    let alike : sign_along up.name a.variable b.variable v ≡ sign_along up.name a.variable b.variable w =
+    signed-alike (sign_along up.name a.variable b.variable v) (sign_along up.name a.variable b.variable w)
+    (sym up.sign ∙ left ∙ sym right ∙ down.sign ∙ ap (λ (n : Name). number_with_sign (sign_along n a.variable b.variable w) (pos 1)) (sym name))
     in
-    let same : v ≡ w = along-one up.name a b v w apart v_is w_is alike in
+    let same : v ≡ w = along-one up.name a.variable b.variable v w apart v_is.0 w_is.0 alike in
     let line : name_in book c ≡ name_in book d = up.line ∙ ap (λ (u : ℕ). slice_set up.name u 0) same ∙ ap (λ (n : Name). slice_set n w 0) name ∙ sym down.line in
     (one-number (cells book) c d (name_in book c) (once-cells book) here.at (there.at ∙ ap Some (sym line)), same))
   where
-    apart : a ≢ b
-    apart = two-apart a b (tables-of book is 0 (a ∷ b ∷ []) (ap (λ (list : List (List ℕ)). slice_get list 0) one)).once
+    apart : a.variable ≢ b.variable
+    apart = two-apart a b (tables-of book is 0 (a ∷ b ∷ []) (ap (λ (list : List (List Dimension)). slice_get list 0) one)).once
 
-    flat : (variable : ℕ) → (variable ≡ a) ⊎ (variable ≡ b) → IsFlat (tree_of book variable)
-    flat variable (inl same) = subst (λ (u : ℕ). IsFlat (tree_of book u)) (sym same) flat_first
-    flat variable (inr same) = subst (λ (u : ℕ). IsFlat (tree_of book u)) (sym same) flat_second
+    -- the variable is one of the two, and the cell's code for it is the total's
+    which : (number variable cell : ℕ) (r : Relation) → IsKnown book number variable cell r → ((variable ≡ a.variable) ⊎ (variable ≡ b.variable)) × (slice_index (name_in book number) variable ≡ 0)
+    which number variable cell r its = by (of-two book.trees a b variable (slice_index (name_in book number) variable) (spans-it book (a ∷ b ∷ []) number variable cell r one its))
+      where
+        by : ((variable ≡ a.variable) × (goes_below (cut_tree book.trees a) (slice_index (name_in book number) variable) ≡ true)) ⊎ ((variable ≡ b.variable) × (goes_below (cut_tree book.trees b) (slice_index (name_in book number) variable) ≡ true))
+            → ((variable ≡ a.variable) ⊎ (variable ≡ b.variable)) × (slice_index (name_in book number) variable ≡ 0)
+        by (inl two) = (inl two.0, flat-total book a variable its.is_made.child.0 (slice_index (name_in book number) variable) flat_first its.good two.0 two.1 its.is_made.child.1)
+        by (inr two) = (inr two.0, flat-total book b variable its.is_made.child.0 (slice_index (name_in book number) variable) flat_second its.good two.0 two.1 its.is_made.child.1)
 
-signs-by : (trees : List Tree) (tables : List (List ℕ)) (book : BookView) (system : System) → IsOneOrTwoWay trees tables → book.trees ≡ trees → book.tables ≡ tables → IsBook book → IsSystemOf book system → HaveSigns system.relations
+signs-by : (trees : List Tree) (tables : List (List Dimension)) (book : BookView) (system : System) → IsOneOrTwoWay trees tables → book.trees ≡ trees → book.tables ≡ tables → IsBook book → IsSystemOf book system → HaveSigns system.relations
 signs-by trees [] book system shape same_trees same_tables is_book is = absurd shape
 signs-by trees ([] ∷ tables) book system shape same_trees same_tables is_book is = absurd shape
-signs-by trees ((variable ∷ []) ∷ []) book system shape same_trees same_tables is_book is = one_variable_has_signs book variable system is_book same_tables is
-signs-by trees ((variable ∷ []) ∷ (table ∷ tables)) book system shape same_trees same_tables is_book is = absurd shape
+signs-by trees ((dimension ∷ []) ∷ []) book system shape same_trees same_tables is_book is = one_variable_has_signs book dimension system is_book same_tables is
+signs-by trees ((dimension ∷ []) ∷ (table ∷ tables)) book system shape same_trees same_tables is_book is = absurd shape
 signs-by trees ((one ∷ other ∷ []) ∷ []) book system shape same_trees same_tables is_book is =
     two_flat_variables_have_signs book one other system is_book same_tables
-    (subst (λ (ts : List Tree). IsFlat (slice_index_or ts one [])) (sym same_trees) shape.0)
-    (subst (λ (ts : List Tree). IsFlat (slice_index_or ts other [])) (sym same_trees) shape.1) is
+    (subst (λ (ts : List Tree). IsFlat (cut_tree ts one)) (sym same_trees) shape.0)
+    (subst (λ (ts : List Tree). IsFlat (cut_tree ts other)) (sym same_trees) shape.1) is
 signs-by trees ((one ∷ other ∷ []) ∷ (table ∷ tables)) book system shape same_trees same_tables is_book is = absurd shape
 signs-by trees ((one ∷ other ∷ third ∷ more) ∷ tables) book system shape same_trees same_tables is_book is = absurd shape
 

@@ -2,12 +2,12 @@
 
 ghost use Rattle.relations.specs.TableSigns.{OneOrTwoWayHasSigns, OneVariableHasSigns, TwoFlatVariablesHaveSigns};
 
-/// The relations of one table of one variable have signs, whatever its tree.
+/// The relations of one table of one variable have signs, whatever its tree and its depth.
 pub fn one_variable_has_signs()
     ensures { OneVariableHasSigns }
 {}
 
-/// The relations of one table of two flat variables have signs.
+/// The relations of one table of two variables have signs where it has flat trees of both, as at depth 1.
 pub fn two_flat_variables_have_signs()
     ensures { TwoFlatVariablesHaveSigns }
 {}

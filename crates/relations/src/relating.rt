@@ -16,8 +16,8 @@ use sdc_base::{Items, Memory, Place, Relation, System};
 use std::alloc::Global;
 
 /// The relations between the cells of a book. For each pair of a cell and a variable there is one where some table
-/// has the cell and spans the variable, and there are codes right below the cell's: the cell is the sum of the cells
-/// that have one of these in its place. They stand by cell and then by variable.
+/// has the cell, spans the variable, and has codes right below the cell's: the cell is the sum of the cells that have
+/// one of these in its place. They stand by cell and then by variable.
 ///
 /// They hold on the truths of the marks where these are of records whose codes have no children. It takes one look-up
 /// for each part of each relation, and for each pair of a cell and a variable a look at each code of the name for
@@ -91,7 +91,7 @@ fn add_relation(
     Ok(())
 }
 
-// Whether some table has the cell with this name and spans the variable, and there are codes right below the cell's.
+// Whether some table has the cell with this name, spans the variable, and has codes right below the cell's.
 fn has_relation(book: &Book, name: &Place, variable: u32) -> bool
     requires book { IsBook book.now }
     requires cell { is_named (book_cells.cells book.now) name.now ≡ true }

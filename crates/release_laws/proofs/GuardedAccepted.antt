@@ -5,6 +5,7 @@ use Rattle.sdc_base.specs.declared.cell.Cell.{Cell}
 use Rattle.sdc_base.specs.declared.system.System.{System}
 use Rattle.attackers.specs.ExtraFaults.{extra_fault}
 use Rattle.sdc_base.specs.HiddenSets.{hide_cells}
+use Rattle.sdc_base.specs.declared.dimension.Dimension.{Dimension}
 use Rattle.attackers.specs.declared.faults.ExtraFault.{ExtraFault}
 use Rattle.cert_check.proofs.Accepted.{tables_good}
 use Rattle.cert_check.proofs.OwnTables.{as_many_texts, own_case, texts_themselves}
@@ -47,7 +48,7 @@ own-alike one other c alike =
     ap (λ (flags : List Bool). hiding_texts one.book.now flags one.decimals one.book.now.tables one.names.now) (own-sets one other c alike)
     ∙ ap (λ (n : ℕ). hiding_texts one.book.now (own_set other c) n one.book.now.tables one.names.now) alike.decimals
     ∙ ap (λ (all : List (List (List ℕ))). hiding_texts one.book.now (own_set other c) other.decimals one.book.now.tables all) alike.names
-    ∙ ap (λ (all : List (List ℕ)). hiding_texts one.book.now (own_set other c) other.decimals all other.names.now) alike.book.tables
+    ∙ ap (λ (all : List (List Dimension)). hiding_texts one.book.now (own_set other c) other.decimals all other.names.now) alike.book.tables
     ∙ texts-same one.book.now other.book.now (own_set other c) other.decimals other.book.now.tables other.names.now alike.book
 
 guarded-alike : (one other : Case) (soles others : List (Option ℕ)) (tables : List (List ℕ)) (c : Certificate) (extra : Extra) → RestAlike one other → soles ≡ others → guarded_fault one soles tables c extra ≡ guarded_fault other others tables c extra

@@ -28,6 +28,7 @@ use Rattle.relations.specs.Holding.{IsSystemOf}
 use Rattle.worlds.specs.Protection.{Protection as HiddenSet}
 use Rattle.release_writer.specs.ReleaseReading.{LinePlace, rounded_read}
 use Rattle.sdc_base.specs.Trails.{corners_of}
+use Rattle.sdc_base.specs.declared.dimension.Dimension.{Dimension}
 use Rattle.repair.specs.HidingOrder.{protected_case, hide_subjects, planned_set}
 use Rattle.job_inputs.specs.ClassifiedJobs.{SettledInputs, IsSettledOf}
 use Rattle.job_inputs.specs.Tables.{names_of}
@@ -86,7 +87,7 @@ pub texts-alike : (one other : Case) (tables : List (List ℕ)) (flags : List Bo
 texts-alike one other tables flags alike =
     ap (λ (names : List (List (List ℕ))). tables_fault one.book.now flags one.decimals 0 one.book.now.tables names tables) alike.names
     ∙ ap (λ (decimals : ℕ). tables_fault one.book.now flags decimals 0 one.book.now.tables other.names.now tables) alike.decimals
-    ∙ ap (λ (all : List (List ℕ)). tables_fault one.book.now flags other.decimals 0 all other.names.now tables) alike.book.tables
+    ∙ ap (λ (all : List (List Dimension)). tables_fault one.book.now flags other.decimals 0 all other.names.now tables) alike.book.tables
     ∙ tables-same one.book.now other.book.now flags other.decimals 0 other.book.now.tables other.names.now tables alike.book
 
 -- so the first fault is

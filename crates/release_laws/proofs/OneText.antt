@@ -7,6 +7,7 @@ use Rattle.sdc_base.specs.Cells.{places, trees_of}
 use Rattle.sdc_base.specs.Steps.{◌>>=◌, map_ok, or_fault, refuse}
 use Rattle.sdc_base.specs.TableText.{line_text, table_text}
 use Rattle.sdc_base.specs.Trees.{Tree}
+use Rattle.sdc_base.specs.declared.dimension.Dimension.{Dimension}
 use Rattle.linked_tables.specs.BookViews.{BookView}
 use Rattle.linked_tables.specs.BookCells.{name_in_table, number_of}
 use Rattle.linked_tables.specs.declared.mark.Mark.{Mark}
@@ -37,19 +38,19 @@ shown-same one other flags same = fun_ext (λ cell.
     ap (λ (o : Option ℤ). if slice_index_or flags cell Bool.false then None else o)
     (sym (slice_get-map (λ (mark : Mark). mark.facts.truth) one cell) ∙ ap (λ (truths : List ℤ). slice_get truths cell) same ∙ slice_get-map (λ (mark : Mark). mark.facts.truth) other cell))
 
-text-same : (one other : BookView) (flags : List Bool) (decimals : ℕ) (table : List ℕ) (names : List (List ℕ)) → AreAlike one other → hiding_text one flags decimals table names ≡ hiding_text other flags decimals table names
+text-same : (one other : BookView) (flags : List Bool) (decimals : ℕ) (table : List Dimension) (names : List (List ℕ)) → AreAlike one other → hiding_text one flags decimals table names ≡ hiding_text other flags decimals table names
 text-same one other flags decimals table names alike =
     ap (λ (shown : ℕ → Option ℤ). table_text one.trees table names decimals (λ name. option_and_then shown (number_of one name))) (shown-same one.marks other.marks flags alike.truths)
-    ∙ ap₂ (λ (trees : List Tree) (tables : List (List ℕ)). table_text trees table names decimals (λ name. option_and_then (open_truth other.marks flags) (number_of (record { trees = trees; tables = tables; marks = other.marks }) name))) alike.trees alike.tables
+    ∙ ap₂ (λ (trees : List Tree) (tables : List (List Dimension)). table_text trees table names decimals (λ name. option_and_then (open_truth other.marks flags) (number_of (record { trees = trees; tables = tables; marks = other.marks }) name))) alike.trees alike.tables
 
 -- so are the texts of a hidden set
-pub texts-same : (one other : BookView) (flags : List Bool) (decimals : ℕ) (tables : List (List ℕ)) (names : List (List (List ℕ))) → AreAlike one other → hiding_texts one flags decimals tables names ≡ hiding_texts other flags decimals tables names
+pub texts-same : (one other : BookView) (flags : List Bool) (decimals : ℕ) (tables : List (List Dimension)) (names : List (List (List ℕ))) → AreAlike one other → hiding_texts one flags decimals tables names ≡ hiding_texts other flags decimals tables names
 texts-same one other flags decimals [] names alike = refl
 texts-same one other flags decimals (table ∷ tables) [] alike = refl
 texts-same one other flags decimals (table ∷ tables) (own ∷ names) alike =
     ap₂ (λ (text : List ℕ) (rest : List (List ℕ)). text ∷ rest) (text-same one other flags decimals table own alike) (texts-same one other flags decimals tables names alike)
 
-pub tables-same : (one other : BookView) (flags : List Bool) (decimals t : ℕ) (tables : List (List ℕ)) (names : List (List (List ℕ))) (files : List (List ℕ)) → AreAlike one other
+pub tables-same : (one other : BookView) (flags : List Bool) (decimals t : ℕ) (tables : List (List Dimension)) (names : List (List (List ℕ))) (files : List (List ℕ)) → AreAlike one other
     → tables_fault one flags decimals t tables names files ≡ tables_fault other flags decimals t tables names files
 tables-same one other flags decimals t [] names files alike = refl
 tables-same one other flags decimals t (table ∷ tables) [] files alike = refl
@@ -62,19 +63,19 @@ tables-same one other flags decimals t (table ∷ tables) (own ∷ names) (bytes
 -- ---- how tables are read as numbers
 
 -- a book of these trees and tables with these marks
-abbrev held : List Tree → List (List ℕ) → List Mark → BookView
+abbrev held : List Tree → List (List Dimension) → List Mark → BookView
 held trees tables marks = record { trees = trees; tables = tables; marks = marks }
 
 -- a table of it, to be read as numbers
-abbrev form : List Tree → List (List ℕ) → ℕ → List ℕ → ℕ → List Mark → Template
+abbrev form : List Tree → List (List Dimension) → ℕ → List Dimension → ℕ → List Mark → Template
 form trees tables t table decimals marks = record { book = held trees tables marks; t = t; table = table; decimals = decimals; rounded = true }
 
-value-same : (trees : List Tree) (tables : List (List ℕ)) (t : ℕ) (table : List ℕ) (decimals : ℕ) (one other : List Mark) (place bytes : List ℕ) (cell : ℕ) (earlier : Option (Option ℤ))
+value-same : (trees : List Tree) (tables : List (List Dimension)) (t : ℕ) (table : List Dimension) (decimals : ℕ) (one other : List Mark) (place bytes : List ℕ) (cell : ℕ) (earlier : Option (Option ℤ))
     → value_there (form trees tables t table decimals one) place bytes cell earlier ≡ value_there (form trees tables t table decimals other) place bytes cell earlier
 value-same trees tables t table decimals one other place bytes cell None = refl
 value-same trees tables t table decimals one other place bytes cell (Some value) = refl
 
-place-same : (trees : List Tree) (tables : List (List ℕ)) (t : ℕ) (table : List ℕ) (decimals : ℕ) (one other : List Mark) (reading : ReleaseSoFar) (place : List ℕ)
+place-same : (trees : List Tree) (tables : List (List Dimension)) (t : ℕ) (table : List Dimension) (decimals : ℕ) (one other : List Mark) (reading : ReleaseSoFar) (place : List ℕ)
     → read_place (form trees tables t table decimals one) reading place ≡ read_place (form trees tables t table decimals other) reading place
 unfolding read_place
 place-same trees tables t table decimals one other reading place =
@@ -82,7 +83,7 @@ place-same trees tables t table decimals one other reading place =
     (fun_ext (λ cell. ap (λ (found : Option (Option ℤ × List ℕ)). or_fault (t, reading.line) found >>= λ it. reading_after reading cell it)
     (value-same trees tables t table decimals one other place reading.rest cell (slice_get reading.shown cell))))
 
-places-same : (trees : List Tree) (tables : List (List ℕ)) (t : ℕ) (table : List ℕ) (decimals : ℕ) (one other : List Mark) (reading : ReleaseSoFar) (rest : List (List ℕ))
+places-same : (trees : List Tree) (tables : List (List Dimension)) (t : ℕ) (table : List Dimension) (decimals : ℕ) (one other : List Mark) (reading : ReleaseSoFar) (rest : List (List ℕ))
     → read_places (form trees tables t table decimals one) reading rest ≡ read_places (form trees tables t table decimals other) reading rest
 places-same trees tables t table decimals one other reading [] = refl
 places-same trees tables t table decimals one other reading (place ∷ rest) =
@@ -90,7 +91,7 @@ places-same trees tables t table decimals one other reading (place ∷ rest) =
     (place-same trees tables t table decimals one other reading place)
     (fun_ext (λ next. places-same trees tables t table decimals one other next rest))
 
-table-same : (trees : List Tree) (tables : List (List ℕ)) (t : ℕ) (table : List ℕ) (decimals : ℕ) (one other : List Mark) (names : List (List ℕ)) (bytes : List ℕ) (shown : List (Option ℤ))
+table-same : (trees : List Tree) (tables : List (List Dimension)) (t : ℕ) (table : List Dimension) (decimals : ℕ) (one other : List Mark) (names : List (List ℕ)) (bytes : List ℕ) (shown : List (Option ℤ))
     → read_table (form trees tables t table decimals one) names bytes shown ≡ read_table (form trees tables t table decimals other) names bytes shown
 unfolding read_table
 table-same trees tables t table decimals one other names bytes shown =
@@ -98,7 +99,7 @@ table-same trees tables t table decimals one other names bytes shown =
     (fun_ext (λ rest. ap (λ (all : Result ReleaseSoFar LinePlace). all >>= λ it. refuse (t, it.line) (is_left it.rest) >>= λ _. Result.Ok it.shown)
     (places-same trees tables t table decimals one other (record { shown = shown; rest = rest; line = 2 }) (places (trees_of trees table)))))
 
-all-same : (trees : List Tree) (tables : List (List ℕ)) (t : ℕ) (decimals : ℕ) (one other : List Mark) (left : List (List ℕ)) (names : List (List (List ℕ))) (files : List (List ℕ)) (shown : List (Option ℤ))
+all-same : (trees : List Tree) (tables : List (List Dimension)) (t : ℕ) (decimals : ℕ) (one other : List Mark) (left : List (List Dimension)) (names : List (List (List ℕ))) (files : List (List ℕ)) (shown : List (Option ℤ))
     → read_tables (held trees tables one) decimals true t left names files shown ≡ read_tables (held trees tables other) decimals true t left names files shown
 unfolding read_tables
 all-same trees tables t decimals one other [] names files shown = refl
@@ -112,4 +113,4 @@ all-same trees tables t decimals one other (table ∷ left) (own ∷ names) (byt
 pub rounded-same : (one other : BookView) (names : List (List (List ℕ))) (decimals : ℕ) (files : List (List ℕ)) → AreAlike one other → rounded_read one names decimals files ≡ rounded_read other names decimals files
 rounded-same one other names decimals files alike =
     ap (map_ok shown_numbers) (all-same one.trees one.tables 0 decimals one.marks other.marks one.tables names files [])
-    ∙ ap₂ (λ (trees : List Tree) (tables : List (List ℕ)). rounded_read (held trees tables other.marks) names decimals files) alike.trees alike.tables
+    ∙ ap₂ (λ (trees : List Tree) (tables : List (List Dimension)). rounded_read (held trees tables other.marks) names decimals files) alike.trees alike.tables

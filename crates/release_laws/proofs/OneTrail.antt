@@ -11,6 +11,7 @@ use Rattle.sdc_base.specs.Trails.{hidden_after, levels_at, with_step}
 use Rattle.sdc_base.specs.Trees.{Tree}
 use Rattle.sdc_base.specs.declared.cell.Cell.{Cell}
 use Rattle.sdc_base.specs.declared.cube.Subtable.{Subtable}
+use Rattle.sdc_base.specs.declared.dimension.Dimension.{Dimension}
 use Rattle.sdc_base.specs.declared.facts.CellFacts.{CellFacts}
 use Rattle.sdc_base.specs.declared.rows.Row.{Row}
 use Rattle.sdc_base.specs.declared.system.System.{System}
@@ -36,7 +37,7 @@ use Rattle.release_laws.proofs.SameValues.{same-systems}
 -- books of the same trees and tables have the same system
 pub same-system : (book next : BookView) (one other : System) → book.trees ≡ next.trees → book.tables ≡ next.tables → IsSystemOf book one → IsSystemOf next other → one ≡ other
 same-system book next one other trees tables is are =
-    let named : cells_in book ≡ cells_in next = ap₂ (λ (ts : List Tree) (all : List (List ℕ)). cells_in (record { trees = ts; tables = all; marks = book.marks })) trees tables in
+    let named : cells_in book ≡ cells_in next = ap₂ (λ (ts : List Tree) (all : List (List Dimension)). cells_in (record { trees = ts; tables = all; marks = book.marks })) trees tables in
     let cells : one.cells ≡ other.cells = is.cells ∙ ap length named ∙ sym are.cells in
     let sums : map sum_in one.relations ≡ map sum_in other.relations = is.relations ∙ ap₂ relations_among trees tables ∙ sym are.relations in
     same-systems one other cells sums
@@ -114,7 +115,7 @@ trail-by book all cost passes = refl
 
 -- it doesn't rest on the marks otherwise
 trail-frame : (one other : BookView) (price : ℕ → ℕ) (all : List Cell) (passes : ℕ) → one.trees ≡ other.trees → one.tables ≡ other.tables → trail_by one price all passes ≡ trail_by other price all passes
-trail-frame one other price all passes trees tables = ap₂ (λ (ts : List Tree) (each : List (List ℕ)). trail_by (record { trees = ts; tables = each; marks = one.marks }) price all passes) trees tables
+trail-frame one other price all passes trees tables = ap₂ (λ (ts : List Tree) (each : List (List Dimension)). trail_by (record { trees = ts; tables = each; marks = one.marks }) price all passes) trees tables
 
 -- books of the same inputs have the same trail
 pub same-trail : (inputs : Inputs) (one other : BookView) (all : List Cell) (cost : CostKind) (passes : ℕ) → IsBookOf inputs one → IsBookOf inputs other → trail_of one all cost passes ≡ trail_of other all cost passes

@@ -13,6 +13,7 @@ use Rattle.sdc_base.specs.Systems.{number_at}
 use Rattle.sdc_base.specs.Steps.{◌>>=◌, map_fault}
 use Rattle.sdc_base.specs.Trees.{Tree}
 use Rattle.sdc_base.specs.declared.cell.Cell.{Cell}
+use Rattle.sdc_base.specs.declared.dimension.Dimension.{Dimension}
 use Rattle.sdc_base.specs.declared.facts.CellFacts.{CellFacts}
 use Rattle.sdc_base.specs.declared.method.Method.{Method}
 use Rattle.sdc_base.specs.declared.method.Method.TheVariants as method
@@ -177,7 +178,7 @@ written-rounding-is-accepted settled book system values case tables sound book_i
     let most : case.base ≤ℤ pos (10 ^ 22) =
     subst (λ (b : ℤ). b ≤ℤ pos (10 ^ 22)) (sym is.base)
     (subst (λ (d : DescribedJob). method_base d.job.method d.bound.decimals ≤ℤ pos (10 ^ 22)) (sym is.job_is.described) (base-most inputs.described.job.method inputs.described.bound.decimals sound.job.method sound.bound.decimals)) in
-    let frame : cells_in held ≡ cells_in own = ap₂ (λ (ts : List Tree) (each : List (List ℕ)). cells_in (record { trees = ts; tables = each; marks = held.marks })) is.book.trees is.book.tables in
+    let frame : cells_in held ≡ cells_in own = ap₂ (λ (ts : List Tree) (each : List (List Dimension)). cells_in (record { trees = ts; tables = each; marks = held.marks })) is.book.trees is.book.tables in
     let one_each : length held.marks ≡ length (cells_in held) = sym (length-map (λ (mark : Mark). mark.facts.truth) held.marks) ∙ ap (λ (list : List ℤ). length list) (sym (own-truths own held is.book.facts)) ∙ length-map (λ (mark : Mark). mark.facts.truth) own.marks ∙ its.one_each ∙ ap (λ (names : List Name). length names) (sym frame) in
     rounding-is-accepted case tables values
     (without_hidden_cells inputs.described.job.method (length (cells inputs)) (length (relations_among inputs.records.trees inputs.described.bound.tables)))
@@ -186,7 +187,7 @@ written-rounding-is-accepted settled book system values case tables sound book_i
       same_method = ap (λ (d : DescribedJob). d.job.method) (sym is.job_is.described) ∙ sym is.method;
       same_cells = ap (λ (names : List Name). length names) (sym (cells-are inputs own its)) ∙ sym is.system.cells;
       same_relations =
-          ap₂ (λ (ts : List Tree) (each : List (List ℕ)). length (relations_among ts each)) (sym its.trees) (sym its.tables) ∙ ap (λ sums. length sums) (sym is.system.relations) ∙ length-map sum_in case.system.now.relations;
+          ap₂ (λ (ts : List Tree) (each : List (List Dimension)). length (relations_among ts each)) (sym its.trees) (sym its.tables) ∙ ap (λ sums. length sums) (sym is.system.relations) ∙ length-map sum_in case.system.now.relations;
     })
     (record { hidden = refl; steps = refl; repairs = refl; needs = refl; worlds = refl })
     (rounded-released case.system.now (map (λ (cell : Cell). cell.truth) case.cells.now) values case.base (fits.base rounding) most within here) here texts

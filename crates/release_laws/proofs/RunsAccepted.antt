@@ -31,6 +31,7 @@ use Rattle.linked_tables.specs.BookCells.{number_of}
 use Rattle.office_io.specs.Files.{Files}
 use Rattle.office_io.specs.Trays.{TrayState}
 use Rattle.sdc_base.specs.HiddenSets.{hide_cells}
+use Rattle.sdc_base.specs.declared.dimension.Dimension.{Dimension}
 use Rattle.release_writer.specs.ReadingLaws.{AreTexts}
 use Rattle.release_writer.specs.ShownCells.{open_truth}
 use Rattle.job_inputs.proofs.CertificateFiles.{certificate-is}
@@ -154,7 +155,7 @@ ShowsSame inputs book shown by =
     → table_text book.trees (slice_index_or book.tables t []) header inputs.described.bound.decimals (λ name. option_and_then by (number_of book name)) ≡ table_of inputs shown t header
 
 -- those from table t on
-texts-from : (inputs : Inputs) (book : BookView) (shown : Name → Option ℤ) (by : ℕ → Option ℤ) (t : ℕ) (rest : List (List ℕ)) (lines : List TableLine) (outputs : List OutputLine) → ShowsSame inputs book shown by
+texts-from : (inputs : Inputs) (book : BookView) (shown : Name → Option ℤ) (by : ℕ → Option ℤ) (t : ℕ) (rest : List (List Dimension)) (lines : List TableLine) (outputs : List OutputLine) → ShowsSame inputs book shown by
     → length rest ≡ length lines → length outputs ≡ length lines → t + length rest ≤ length book.tables → ((k : ℕ) → k < length rest → slice_index_or book.tables (t + k) [] ≡ slice_index_or rest k [])
     → AreTexts book inputs.described.bound.decimals by rest (map names_of lines) (map (λ (p : Put). p.bytes) (tables_from inputs shown t lines outputs))
 texts-from inputs book shown by t [] [] [] same many each within at = tt
@@ -165,7 +166,7 @@ texts-from inputs book shown by t (table ∷ rest) (line ∷ lines) [] same many
 texts-from inputs book shown by t (table ∷ rest) (line ∷ lines) (output ∷ outputs) same many each within at =
     let here : t + 0 ≡ t = omega arith in
     let first : slice_index_or book.tables t [] ≡ table = ap (λ (k : ℕ). slice_index_or book.tables k []) (sym here) ∙ at 0 (omega arith) in (
-      sym (same t (names_of line) (omega (arith, within))) ∙ ap (λ (one : List ℕ). table_text book.trees one (names_of line) inputs.described.bound.decimals (λ name. option_and_then by (number_of book name))) first,
+      sym (same t (names_of line) (omega (arith, within))) ∙ ap (λ (one : List Dimension). table_text book.trees one (names_of line) inputs.described.bound.decimals (λ name. option_and_then by (number_of book name))) first,
       texts-from inputs book shown by (t + 1) rest lines outputs same (omega (arith, many)) (omega (arith, each)) (omega (arith, within))
           (λ k inside. (let next : t + suc k ≡ t + 1 + k = omega arith in ap (λ (n : ℕ). slice_index_or book.tables n []) (sym next) ∙ at (suc k) (omega (arith, inside)))),
     )

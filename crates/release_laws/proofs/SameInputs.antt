@@ -14,7 +14,7 @@ use Rattle.job_lang.specs.declared.job.Job.{Job}
 use Rattle.job_lang.specs.declared.job.OutputLine.{OutputLine}
 use Rattle.job_lang.specs.declared.job.PriorLine.{PriorLine}
 use Rattle.job_lang.specs.declared.job.TableLine.{TableLine}
-use Rattle.linked_tables.specs.Tables.{book_of}
+use Rattle.linked_tables.specs.Tables.{book_with_depths}
 use Rattle.microdata.specs.declared.records.Records.{Records}
 use Rattle.office_io.specs.Files.{Files}
 use Rattle.rda_meta.specs.Metadata.{meta_of}
@@ -256,7 +256,7 @@ pub settled-same : PutsAreNotRead → PutsAreNotNamed → (files held : Files) (
 unfolding settled_of
 settled-same not_read not_named files held name settled h agree =
     let inputs = bind_ok (inputs_of purpose.Release files name) _ settled h in
-    let linked = bind_ok (map_fault cells_fault (book_of inputs.0.records.trees inputs.0.described.bound.tables)) _ settled inputs.2 in
+    let linked = bind_ok (map_fault cells_fault (book_with_depths inputs.0.records.trees inputs.0.described.bound.tables)) _ settled inputs.2 in
     let priors = bind_ok (priors_of files inputs.0) _ settled linked.2 in
     let cells = bind_ok (settled_cells inputs.0 priors.0) _ settled priors.2 in
     let fine = bind_ok (refuse fault.OutName (overwrites_job name inputs.0.described.job)) _ settled cells.2 in

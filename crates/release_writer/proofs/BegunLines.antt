@@ -1,5 +1,5 @@
 -- A line, field after field.
-use Rattle.std.proofs.Common.{◌≡◌, ℕ, zero, suc, ◌+◌, ◌<◌, ◌≤◌, ◌==◌, slice_index_or, false, List, [], ◌∷◌, ◌++◌, length, map, take, get_or, slice_get, subst, Option, None, Some, option_map, arith, refl, ap, sym, ◌∙◌, append_assoc}
+use Rattle.std.proofs.Common.{◌≡◌, ℕ, zero, suc, ◌+◌, ◌<◌, ◌≤◌, ◌==◌, slice_index_or, false, List, [], ◌∷◌, ◌++◌, length, map, take, get_or, subst, Option, None, Some, option_map, arith, refl, ap, sym, ◌∙◌, append_assoc}
 use Rattle.std.specs.List.{join_with_byte}
 use Rattle.std.proofs.lemmas.Bool.Decides.{nat_tests}
 use Rattle.csv.specs.Writing.{default_writer, next_sep}
@@ -7,6 +7,7 @@ use Rattle.csv.specs.Writing.{field_text as csv_text}
 use Rattle.sdc_base.specs.TableText.{comma, field_text, line_text, codes_of_place}
 use Rattle.sdc_base.specs.Trees.{Tree, code_in}
 use Rattle.sdc_base.specs.Cells.{trees_of}
+use Rattle.sdc_base.specs.declared.dimension.Dimension.{Dimension}
 use Rattle.release_writer.proofs.CsvFields.{field-same}
 
 -- a line so far: the fields with commas between them
@@ -47,21 +48,25 @@ pub end-more : (fields : List (List ℕ)) (start old new : Option (List ℕ)) �
 end-more fields None old new before after = after ∙ rw before refl
 end-more fields (Some start) old new before after = after ∙ ap (λ t. option_map (λ text. text ++ 10 ∷ []) t) before ∙ ap Some (append_assoc start (begun_line fields) (10 ∷ []))
 
--- the codes of one variable more
-pub codes-more : (trees : List Tree) (table place : List ℕ) (k : ℕ) → k < length table → k < length place
-    → codes_of_place (trees_of trees (take (k + 1) table)) (take (k + 1) place) ≡ codes_of_place (trees_of trees (take k table)) (take k place) ++ code_in (slice_index_or trees (get_or table k 0) []) (get_or place k 0) ∷ []
-codes-more trees [] place k inside long = absurd (omega arith)
-codes-more trees (variable ∷ table) [] k inside long = absurd (omega arith)
-codes-more trees (variable ∷ table) (code ∷ place) zero inside long = refl
-codes-more trees (variable ∷ table) (code ∷ place) (suc k) inside long =
-    let next : suc k + 1 ≡ suc (k + 1) = omega arith in
-    rw next (ap (λ rest. code_in (slice_index_or trees variable []) code ∷ rest) (codes-more trees table place k (omega arith) (omega arith)))
+-- a dimension for what stands behind the last one
+abbrev no_dimension : Dimension
+no_dimension = record { variable = 0; depth = 0 }
 
-pub codes-length : (trees : List Tree) (table place : List ℕ) (k : ℕ) → k ≤ length table → k ≤ length place → length (codes_of_place (trees_of trees (take k table)) (take k place)) ≡ k
+-- the codes of one variable more
+pub codes-more : (trees : List Tree) (table : List Dimension) (place : List ℕ) (k : ℕ) → k < length table → k < length place
+    → codes_of_place (trees_of trees (take (k + 1) table)) (take (k + 1) place) ≡ codes_of_place (trees_of trees (take k table)) (take k place) ++ code_in (slice_index_or trees (get_or table k no_dimension).variable []) (get_or place k 0) ∷ []
+codes-more trees [] place k inside long = absurd (omega arith)
+codes-more trees (dimension ∷ table) [] k inside long = absurd (omega arith)
+codes-more trees (dimension ∷ table) (code ∷ place) zero inside long = refl
+codes-more trees (dimension ∷ table) (code ∷ place) (suc k) inside long =
+    let next : suc k + 1 ≡ suc (k + 1) = omega arith in
+    rw next (ap (λ rest. code_in (slice_index_or trees dimension.variable []) code ∷ rest) (codes-more trees table place k (omega arith) (omega arith)))
+
+pub codes-length : (trees : List Tree) (table : List Dimension) (place : List ℕ) (k : ℕ) → k ≤ length table → k ≤ length place → length (codes_of_place (trees_of trees (take k table)) (take k place)) ≡ k
 codes-length trees table place zero inside long = refl
 codes-length trees [] place (suc k) inside long = absurd (omega arith)
-codes-length trees (variable ∷ table) [] (suc k) inside long = absurd (omega arith)
-codes-length trees (variable ∷ table) (code ∷ place) (suc k) inside long = ap suc (codes-length trees table place k (omega arith) (omega arith))
+codes-length trees (dimension ∷ table) [] (suc k) inside long = absurd (omega arith)
+codes-length trees (dimension ∷ table) (code ∷ place) (suc k) inside long = ap suc (codes-length trees table place k (omega arith) (omega arith))
 
 -- what a list shows that begins with this
 pub first-shows : (names : List (List ℕ)) (name : List ℕ) (i : ℕ) → i + 1 ≡ 1 → name ≡ get_or names i name → 0 < length (slice_index_or names 0 []) → 0 < length name

@@ -8,6 +8,7 @@ use Rattle.sdc_base.specs.Cells.{cells_of, places, trees_of, name_of}
 use Rattle.sdc_base.specs.Places.{first_place}
 use Rattle.sdc_base.specs.TableText.{line_text, codes_of_place, shown_text, table_text}
 use Rattle.std.specs.Prelude.{bytes_eq}
+use Rattle.sdc_base.specs.declared.dimension.Dimension.{Dimension}
 use Rattle.linked_tables.specs.BookCells.{number_of}
 use Rattle.release_writer.specs.ShownCells.{shown_in, number_shown}
 use Rattle.release_writer.specs.Laws.{OnlyWhatIsShownEnters, HiddenShowNothing}
@@ -16,7 +17,7 @@ same-lines : (f g : List ℕ → List ℕ) (xs : List (List ℕ)) → ((x : List
 same-lines f g [] same = refl
 same-lines f g (x ∷ xs) same = ap (λ t. t ++ flat_map f xs) (same x) ∙ ap (λ t. g x ++ t) (same-lines f g xs same)
 
-pub same-text : (trees : List Tree) (table : List ℕ) (names : List (List ℕ)) (decimals : ℕ) (one other : Name → Option ℤ) → ((name : Name) → one name ≡ other name) → table_text trees table names decimals one ≡ table_text trees table names decimals other
+pub same-text : (trees : List Tree) (table : List Dimension) (names : List (List ℕ)) (decimals : ℕ) (one other : Name → Option ℤ) → ((name : Name) → one name ≡ other name) → table_text trees table names decimals one ≡ table_text trees table names decimals other
 same-text trees table names decimals one other same =
     ap (λ t. line_text names ++ t)
     (same-lines

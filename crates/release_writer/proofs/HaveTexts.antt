@@ -1,6 +1,6 @@
 -- Bytes that are read are the texts of what is read.
 use Rattle.std.proofs.Common.{◌≡◌, ℕ, zero, suc, ◌+◌, ◌<◌, ◌≤◌, Bool, true, false, not, List, [], ◌∷◌, ◌++◌, length, map, fold, take, drop, slice_get, slice_index_or, nat_lt, bytes_eq, Option, None, Some, option_map, is_some, Result, Ok, Err, ℤ, arith, refl, ap, sym, ◌∙◌, subst, append_assoc, append-nil, length-append, if◌then◌else◌}
-use Rattle.std.specs.List.{flat_map, range_with_len}
+use Rattle.std.specs.List.{flat_map}
 use Rattle.std.specs.Option.{option_and_then}
 use Rattle.std.proofs.lemmas.List.{take-append-drop}
 use Rattle.std.proofs.lemmas.List.Sums.{fold-append}
@@ -10,9 +10,10 @@ use Rattle.std.proofs.lemmas.Slice.Eq.{bytes_eq-Decides}
 use Rattle.sdc_base.specs.Records.{Name}
 use Rattle.sdc_base.specs.Places.{first_place}
 use Rattle.sdc_base.specs.Steps.{◌>>=◌, or_fault, refuse, map_ok}
-use Rattle.sdc_base.specs.Cells.{places, trees_of, name_of, named_by, is_named, with_name, cells_of}
-use Rattle.sdc_base.specs.TableText.{line_text, codes_of_place}
+use Rattle.sdc_base.specs.Cells.{places, trees_of, named_by, is_named, with_name}
+use Rattle.sdc_base.specs.TableText.{line_text}
 use Rattle.sdc_base.proofs.FirstNames.{stay}
+use Rattle.sdc_base.specs.declared.dimension.Dimension.{Dimension}
 use Rattle.linked_tables.specs.declared.mark.Mark.{Mark}
 use Rattle.linked_tables.specs.BookViews.{BookView}
 use Rattle.linked_tables.specs.BookCells.{cells, name_in_table, number_of}
@@ -48,7 +49,7 @@ fitting-some form place bytes value found h = go (rest_behind (line_showing form
 -- a new cell's value is one that it may have
 abbrev pub GivesNew : BookView → ℕ → Bool → (ℕ → Option ℤ → Type 0) → Type 0
 GivesNew book decimals rounded P =
-    (t : ℕ) (table place bytes : List ℕ) (cell : ℕ) (found : Option ℤ × List ℕ)
+    (t : ℕ) (table : List Dimension) (place bytes : List ℕ) (cell : ℕ) (found : Option ℤ × List ℕ)
     → let form : Template = record { book = book; t = t; table = table; decimals = decimals; rounded = rounded } in
     new_value form place bytes cell ≡ Some found → Shows form place bytes found × P cell found.0
 
@@ -135,7 +136,7 @@ known-read form P done later reading next place all is long each h =
       all = subst (λ (values : List (Option ℤ)). AllFrom P 0 values) (sym shown) each;
     }
 
-new-read : (book : BookView) (t : ℕ) (table : List ℕ) (decimals : ℕ) (rounded : Bool) (P : ℕ → Option ℤ → Type 0) (done later : List Name) (reading next : ReleaseSoFar) (place : List ℕ) → GivesNew book decimals rounded P
+new-read : (book : BookView) (t : ℕ) (table : List Dimension) (decimals : ℕ) (rounded : Bool) (P : ℕ → Option ℤ → Type 0) (done later : List Name) (reading next : ReleaseSoFar) (place : List ℕ) → GivesNew book decimals rounded P
     → let form : Template = record { book = book; t = t; table = table; decimals = decimals; rounded = rounded } in
     cells book ≡ (done ++ name_in_table book table place ∷ []) ++ later → is_named done (name_in_table book table place) ≡ false → length reading.shown ≡ length done → AllFrom P 0 reading.shown → read_place form reading place ≡ Ok next
     → Read form P reading next place (length (done ++ name_in_table book table place ∷ []))
@@ -165,7 +166,7 @@ new-read book t table decimals rounded P done later reading next place gives all
       all = subst (λ (values : List (Option ℤ)). AllFrom P 0 values) (sym shown) (all-more P 0 reading.shown got.0.0 each (subst (λ k. P k got.0.0) same fits.1));
     }
 
-some-read : (book : BookView) (t : ℕ) (table : List ℕ) (decimals : ℕ) (rounded : Bool) (P : ℕ → Option ℤ → Type 0) (done later : List Name) (reading next : ReleaseSoFar) (place : List ℕ) → GivesNew book decimals rounded P
+some-read : (book : BookView) (t : ℕ) (table : List Dimension) (decimals : ℕ) (rounded : Bool) (P : ℕ → Option ℤ → Type 0) (done later : List Name) (reading next : ReleaseSoFar) (place : List ℕ) → GivesNew book decimals rounded P
     → let form : Template = record { book = book; t = t; table = table; decimals = decimals; rounded = rounded } in
     cells book ≡ with_name done (name_in_table book table place) ++ later → length reading.shown ≡ length done → AllFrom P 0 reading.shown → read_place form reading place ≡ Ok next
     → Read form P reading next place (length (with_name done (name_in_table book table place)))
@@ -199,7 +200,7 @@ pub record ReadAll (form : Template) (P : ℕ → Option ℤ → Type 0) (readin
   pub long : length next.shown ≡ size
   pub all : AllFrom P 0 next.shown
 
-lines-read : (book : BookView) (t : ℕ) (table : List ℕ) (decimals : ℕ) (rounded : Bool) (P : ℕ → Option ℤ → Type 0) → GivesNew book decimals rounded P
+lines-read : (book : BookView) (t : ℕ) (table : List Dimension) (decimals : ℕ) (rounded : Bool) (P : ℕ → Option ℤ → Type 0) → GivesNew book decimals rounded P
     → let form : Template = record { book = book; t = t; table = table; decimals = decimals; rounded = rounded } in
     (found : List (List ℕ)) (done more : List Name) (reading last : ReleaseSoFar)
     → cells book ≡ fold with_name done (map (name_in_table book table) found ++ more) → length reading.shown ≡ length done → AllFrom P 0 reading.shown → read_places form reading found ≡ Ok last
@@ -275,7 +276,7 @@ table-read form names bytes shown last h =
     }
 
 -- what tables that are read say
-pub record TablesRead (book : BookView) (decimals : ℕ) (P : ℕ → Option ℤ → Type 0) (shown last : List (Option ℤ)) (tables : List (List ℕ)) (names : List (List (List ℕ))) (files : List (List ℕ)) : Type 0 where
+pub record TablesRead (book : BookView) (decimals : ℕ) (P : ℕ → Option ℤ → Type 0) (shown last : List (Option ℤ)) (tables : List (List Dimension)) (names : List (List (List ℕ))) (files : List (List ℕ)) : Type 0 where
   pub new : List (Option ℤ)
   pub grown : last ≡ shown ++ new
   pub long : length last ≡ length (cells book)
@@ -283,7 +284,7 @@ pub record TablesRead (book : BookView) (decimals : ℕ) (P : ℕ → Option ℤ
   pub texts : AreTexts book decimals (shown_by last) tables names files
 
 tables-read : (book : BookView) (decimals : ℕ) (rounded : Bool) (P : ℕ → Option ℤ → Type 0) → GivesNew book decimals rounded P
-    → (t : ℕ) (tables : List (List ℕ)) (names : List (List (List ℕ))) (files : List (List ℕ)) (done : List Name) (shown last : List (Option ℤ))
+    → (t : ℕ) (tables : List (List Dimension)) (names : List (List (List ℕ))) (files : List (List ℕ)) (done : List Name) (shown last : List (Option ℤ))
     → length names ≡ length tables → length files ≡ length tables
     → cells book ≡ fold with_name done (flat_map (named_by book.trees) tables) → length shown ≡ length done → AllFrom P 0 shown
     → read_tables book decimals rounded t tables names files shown ≡ Ok last → TablesRead book decimals P shown last tables names files
@@ -327,7 +328,7 @@ pub release-read : (book : BookView) (decimals : ℕ) (rounded : Bool) (P : ℕ 
     → length names ≡ length book.tables → length files ≡ length book.tables → release_read book names decimals rounded files ≡ Ok last → TablesRead book decimals P [] last book.tables names files
 release-read book decimals rounded P names files last gives one_name one_file h = tables-read book decimals rounded P gives 0 book.tables names files [] [] last one_name one_file refl refl tt h
 
-pub texts-same : (book : BookView) (decimals : ℕ) (f g : ℕ → Option ℤ) → ((cell : ℕ) → f cell ≡ g cell) → (tables : List (List ℕ)) (names : List (List (List ℕ))) (files : List (List ℕ)) → AreTexts book decimals f tables names files → AreTexts book decimals g tables names files
+pub texts-same : (book : BookView) (decimals : ℕ) (f g : ℕ → Option ℤ) → ((cell : ℕ) → f cell ≡ g cell) → (tables : List (List Dimension)) (names : List (List (List ℕ))) (files : List (List ℕ)) → AreTexts book decimals f tables names files → AreTexts book decimals g tables names files
 texts-same book decimals f g same [] names files texts = tt
 texts-same book decimals f g same (table ∷ tables) [] files texts = texts
 texts-same book decimals f g same (table ∷ tables) (own ∷ names) [] texts = texts

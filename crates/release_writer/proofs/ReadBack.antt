@@ -1,6 +1,6 @@
 -- What is written is read as that.
-use Rattle.std.proofs.Common.{◌≡◌, ℕ, zero, suc, ◌+◌, ◌<◌, ◌≤◌, ◌||◌, Bool, true, false, cond, not, List, [], ◌∷◌, ◌++◌, length, map, fold, slice_get, slice_index_or, get_or, nat_lt, bytes_eq, Option, None, Some, option_map, is_some, Result, Ok, Err, ℤ, arith, refl, ap, sym, ◌∙◌, subst, append_assoc, append-nil, length-append, if◌then◌else◌}
-use Rattle.std.specs.List.{flat_map, range_with_len, list_any}
+use Rattle.std.proofs.Common.{◌≡◌, ℕ, zero, suc, ◌+◌, ◌<◌, ◌||◌, Bool, true, false, cond, not, List, [], ◌∷◌, ◌++◌, length, map, fold, slice_get, slice_index_or, get_or, nat_lt, bytes_eq, Option, None, Some, option_map, is_some, Ok, ℤ, arith, refl, ap, sym, ◌∙◌, length-append, if◌then◌else◌}
+use Rattle.std.specs.List.{flat_map, range_with_len}
 use Rattle.std.specs.Option.{option_and_then}
 use Rattle.std.proofs.lemmas.List.FromFn.{length-map-range_with_len}
 use Rattle.std.proofs.lemmas.List.Sums.{fold-append}
@@ -10,14 +10,15 @@ use Rattle.std.proofs.lemmas.Slice.Eq.{bytes_eq-Decides}
 use Rattle.sdc_base.specs.Records.{Name}
 use Rattle.sdc_base.specs.Places.{first_place}
 use Rattle.sdc_base.specs.Steps.{◌>>=◌, map_ok}
-use Rattle.sdc_base.specs.Cells.{places, trees_of, name_of, named_by, is_named, with_name, cells_of}
+use Rattle.sdc_base.specs.Cells.{places, trees_of, named_by, is_named, with_name}
 use Rattle.sdc_base.specs.TableText.{line_text, codes_of_place}
 use Rattle.sdc_base.proofs.FirstNames.{stay}
+use Rattle.sdc_base.specs.declared.dimension.Dimension.{Dimension}
 use Rattle.linked_tables.specs.declared.mark.Mark.{Mark}
 use Rattle.linked_tables.specs.BookViews.{BookView}
 use Rattle.linked_tables.specs.BookCells.{cells, name_in_table, number_of}
 use Rattle.release_writer.specs.ShownCells.{open_truth}
-use Rattle.release_writer.specs.ReleaseReading.{ReleaseSoFar, LinePlace, next_line, with_value, read_place, read_places, read_table, read_tables, release_read, is_left, flags_of}
+use Rattle.release_writer.specs.ReleaseReading.{ReleaseSoFar, next_line, with_value, read_place, read_places, read_table, read_tables, release_read, is_left, flags_of}
 use Rattle.release_writer.specs.LineChoices.{Template, rest_behind, line_showing, choice_there, new_value, value_there, truth_of, or_second}
 use Rattle.release_writer.specs.ReadingLaws.{AreTexts, HiddenAreReadBack}
 use Rattle.release_writer.proofs.Behind.{behind-self, crossed-differs}
@@ -84,7 +85,7 @@ place-known name (other ∷ names) h =
 -- how a new cell is read where the bytes have what it shows
 abbrev pub ReadsNew : BookView → ℕ → Bool → (ℕ → Option ℤ) → Type 0
 ReadsNew book decimals rounded f =
-    (t : ℕ) (table place rest : List ℕ) (cell : ℕ) → cell < length (cells book)
+    (t : ℕ) (table : List Dimension) (place rest : List ℕ) (cell : ℕ) → cell < length (cells book)
     → let form : Template = record { book = book; t = t; table = table; decimals = decimals; rounded = rounded } in
     new_value form place (line_showing form place (f cell) ++ rest) cell ≡ Some (f cell, rest)
 
@@ -118,7 +119,7 @@ known-line form f done later place rest line all is =
     ∙ one-line form (record { shown = first_shown f (length done); rest = line_showing form place (f cell) ++ rest; line = line }) place rest cell (Some (f cell)) (f cell) number there (fits-self form place rest (f cell))
     ∙ ap (λ shown. Ok (record { shown = shown; rest = rest; line = next_line line })) stays
 
-new-line : (book : BookView) (t : ℕ) (table : List ℕ) (decimals : ℕ) (rounded : Bool) (f : ℕ → Option ℤ) (done later : List Name) (place rest : List ℕ) (line : ℕ) → ReadsNew book decimals rounded f
+new-line : (book : BookView) (t : ℕ) (table : List Dimension) (decimals : ℕ) (rounded : Bool) (f : ℕ → Option ℤ) (done later : List Name) (place rest : List ℕ) (line : ℕ) → ReadsNew book decimals rounded f
     → let form : Template = record { book = book; t = t; table = table; decimals = decimals; rounded = rounded } in
     cells book ≡ (done ++ name_in_table book table place ∷ []) ++ later → is_named done (name_in_table book table place) ≡ false
     → read_place form (record { shown = first_shown f (length done); rest = line_showing form place (shows_of book f (name_in_table book table place)) ++ rest; line = line }) place
@@ -138,7 +139,7 @@ new-line book t table decimals rounded f done later place rest line reads all is
     ∙ one-line form (record { shown = first_shown f cell; rest = line_showing form place (f cell) ++ rest; line = line }) place rest cell None (f cell) number there (reads t table place rest cell small)
     ∙ ap (λ shown. Ok (record { shown = shown; rest = rest; line = next_line line })) more
 
-some-line : (book : BookView) (t : ℕ) (table : List ℕ) (decimals : ℕ) (rounded : Bool) (f : ℕ → Option ℤ) (done later : List Name) (place rest : List ℕ) (line : ℕ) → ReadsNew book decimals rounded f
+some-line : (book : BookView) (t : ℕ) (table : List Dimension) (decimals : ℕ) (rounded : Bool) (f : ℕ → Option ℤ) (done later : List Name) (place rest : List ℕ) (line : ℕ) → ReadsNew book decimals rounded f
     → let form : Template = record { book = book; t = t; table = table; decimals = decimals; rounded = rounded } in
     cells book ≡ with_name done (name_in_table book table place) ++ later
     → read_place form (record { shown = first_shown f (length done); rest = line_showing form place (shows_of book f (name_in_table book table place)) ++ rest; line = line }) place
@@ -160,7 +161,7 @@ abbrev pub line_behind : ℕ → List (List ℕ) → ℕ
 line_behind line [] = line
 line_behind line (place ∷ rest) = line_behind (next_line line) rest
 
-lines-read : (book : BookView) (t : ℕ) (table : List ℕ) (decimals : ℕ) (rounded : Bool) (f : ℕ → Option ℤ) → ReadsNew book decimals rounded f
+lines-read : (book : BookView) (t : ℕ) (table : List Dimension) (decimals : ℕ) (rounded : Bool) (f : ℕ → Option ℤ) → ReadsNew book decimals rounded f
     → let form : Template = record { book = book; t = t; table = table; decimals = decimals; rounded = rounded } in
     (found : List (List ℕ)) (done more : List Name) (line : ℕ)
     → cells book ≡ fold with_name done (map (name_in_table book table) found ++ more)
@@ -183,7 +184,7 @@ unfolding read_table
 table-steps form names bytes rest shown all first lines end = rw (first, lines, end) refl
 
 tables-read : (book : BookView) (decimals : ℕ) (rounded : Bool) (f : ℕ → Option ℤ) → ReadsNew book decimals rounded f
-    → (t : ℕ) (tables : List (List ℕ)) (names : List (List (List ℕ))) (files : List (List ℕ)) (done : List Name)
+    → (t : ℕ) (tables : List (List Dimension)) (names : List (List (List ℕ))) (files : List (List ℕ)) (done : List Name)
     → cells book ≡ fold with_name done (flat_map (named_by book.trees) tables) → AreTexts book decimals f tables names files
     → read_tables book decimals rounded t tables names files (first_shown f (length done)) ≡ Ok (first_shown f (length (cells book)))
 unfolding read_tables

@@ -1,13 +1,15 @@
 -- The lines of places, read one after another.
-use Rattle.std.proofs.Common.{◌≡◌, ℕ, zero, suc, ◌+◌, ◌-◌, ◌<◌, ◌≤◌, List, [], ◌∷◌, ◌++◌, length, map, take, drop, get_or, slice_get, slice_index_or, Option, None, Some, Result, Ok, Err, arith, refl, ap, sym, ◌∙◌, append_assoc, append-nil, length-append}
+use Rattle.std.proofs.Common.{◌≡◌, ℕ, suc, ◌+◌, ◌-◌, ◌<◌, ◌≤◌, true, false, cond, List, [], ◌∷◌, ◌++◌, length, map, filter, drop, Option, None, Some, Result, Ok, Err, arith, refl, ap, sym, ◌∙◌, append_assoc, append-nil, length-append}
 use Rattle.std.specs.List.{flat_map, range_with_len}
 use Rattle.std.proofs.lemmas.List.{drop_more, drop_all, map-id}
 use Rattle.sdc_base.specs.Answers.{Fails}
 use Rattle.sdc_base.specs.Steps.{◌>>=◌}
+use Rattle.sdc_base.specs.CutTrees.{is_within}
 use Rattle.sdc_base.specs.Cells.{places, trees_of}
 use Rattle.release_writer.specs.ReleaseReading.{ReleaseSoFar, LinePlace, read_place, read_places}
 use Rattle.release_writer.specs.LineChoices.{Template}
 use Rattle.release_writer.specs.Sheets.{places_below}
+use Rattle.release_writer.proofs.BegunPlaces.{next_tree, no_dimension}
 
 pub step-end : {A F : Type 0} (r : Result A F) → (r >>= λ x. Ok x) ≡ r
 step-end (Ok x) = refl
@@ -32,7 +34,7 @@ read-more form reading (x ∷ xs) ys =
 abbrev pub places_from : Template → List ℕ → ℕ → List (List ℕ)
 places_from form place code =
     flat_map (λ c. map (λ rest. place ++ c ∷ rest) (places (trees_of form.book.trees (drop (length place + 1) form.table))))
-    (range_with_len code (length (slice_index_or form.book.trees (get_or form.table (length place) 0) []) - code))
+    (filter (is_within (next_tree form.book.trees form.table place)) (range_with_len code (length (next_tree form.book.trees form.table place).tree - code)))
 
 map-joined : (f : List ℕ → List ℕ) (xs ys : List (List ℕ)) → map f (xs ++ ys) ≡ map f xs ++ map f ys
 map-joined f [] ys = refl
@@ -66,47 +68,69 @@ below-whole form place h =
 -- a shorter one goes on with the codes from the first on
 pub below-from : (form : Template) (place : List ℕ) → length place < length form.table → places_below form place ≡ places_from form place 0
 below-from form place h =
-    let size = length (slice_index_or form.book.trees (get_or form.table (length place) 0) []) in
+    let cut = next_tree form.book.trees form.table place in
+    let size = length cut.tree in
     let rests = places (trees_of form.book.trees (drop (length place + 1) form.table)) in
     let all : size ≡ size - 0 = omega arith in
-    ap (λ left. map (λ rest. place ++ rest) (places (trees_of form.book.trees left))) (drop_more form.table (length place) 0 h)
-    ∙ spread place rests (range_with_len 0 size)
-    ∙ ap (λ n. flat_map (λ c. map (λ rest. place ++ c ∷ rest) rests) (range_with_len 0 n)) all
+    ap (λ left. map (λ rest. place ++ rest) (places (trees_of form.book.trees left))) (drop_more form.table (length place) no_dimension h)
+    ∙ spread place rests (filter (is_within cut) (range_with_len 0 size))
+    ∙ ap (λ n. flat_map (λ c. map (λ rest. place ++ c ∷ rest) rests) (filter (is_within cut) (range_with_len 0 n))) all
 
--- with one code, and then with those from the next on
-pub from-next : (form : Template) (place : List ℕ) (code : ℕ) → code < length (slice_index_or form.book.trees (get_or form.table (length place) 0) [])
-    → places_from form place code ≡ places_below form (place ++ code ∷ []) ++ places_from form place (code + 1)
-from-next form place code h =
-    let size = length (slice_index_or form.book.trees (get_or form.table (length place) 0) []) in
+-- the next code, whether it is kept or not
+from-by : (form : Template) (place : List ℕ) (code : ℕ) → code < length (next_tree form.book.trees form.table place).tree
+    → places_from form place code ≡ flat_map (λ c. map (λ rest. place ++ c ∷ rest) (places (trees_of form.book.trees (drop (length place + 1) form.table))))
+    (filter (is_within (next_tree form.book.trees form.table place)) (code ∷ range_with_len (code + 1) (length (next_tree form.book.trees form.table place).tree - (code + 1))))
+from-by form place code h =
+    let cut = next_tree form.book.trees form.table place in
+    let size = length cut.tree in
     let rests = places (trees_of form.book.trees (drop (length place + 1) form.table)) in
     let some : size - code ≡ suc (size - (code + 1)) = omega (arith, h) in
-    ap (λ n. flat_map (λ c. map (λ rest. place ++ c ∷ rest) rests) (range_with_len code n)) some
+    ap (λ n. flat_map (λ c. map (λ rest. place ++ c ∷ rest) rests) (filter (is_within cut) (range_with_len code n))) some
+
+-- with one code, and then with those from the next on
+pub from-next : (form : Template) (place : List ℕ) (code : ℕ) → code < length (next_tree form.book.trees form.table place).tree → is_within (next_tree form.book.trees form.table place) code ≡ true
+    → places_from form place code ≡ places_below form (place ++ code ∷ []) ++ places_from form place (code + 1)
+from-next form place code h kept =
+    let cut = next_tree form.book.trees form.table place in
+    let rests = places (trees_of form.book.trees (drop (length place + 1) form.table)) in
+    let left = filter (is_within cut) (range_with_len (code + 1) (length cut.tree - (code + 1))) in
+    from-by form place code h
+    ∙ ap (λ b. flat_map (λ c. map (λ rest. place ++ c ∷ rest) rests) (cond b (code ∷ left) left)) kept
     ∙ ap (λ t. t ++ places_from form place (code + 1)) (longer place code rests ∙ ap (λ n. map (λ rest. (place ++ code ∷ []) ++ rest) (places (trees_of form.book.trees (drop n form.table)))) (sym (length-append place (code ∷ []))))
 
+-- a code that the table doesn't have is passed over
+pub from-passed : (form : Template) (place : List ℕ) (code : ℕ) → code < length (next_tree form.book.trees form.table place).tree → is_within (next_tree form.book.trees form.table place) code ≡ false → places_from form place code ≡ places_from form place (code + 1)
+from-passed form place code h passed =
+    let cut = next_tree form.book.trees form.table place in
+    let rests = places (trees_of form.book.trees (drop (length place + 1) form.table)) in
+    let left = filter (is_within cut) (range_with_len (code + 1) (length cut.tree - (code + 1))) in
+    from-by form place code h ∙ ap (λ b. flat_map (λ c. map (λ rest. place ++ c ∷ rest) rests) (cond b (code ∷ left) left)) passed
+
 -- behind the last code there is none
-pub from-end : (form : Template) (place : List ℕ) (code : ℕ) → length (slice_index_or form.book.trees (get_or form.table (length place) 0) []) ≤ code → places_from form place code ≡ []
+pub from-end : (form : Template) (place : List ℕ) (code : ℕ) → length (next_tree form.book.trees form.table place).tree ≤ code → places_from form place code ≡ []
 from-end form place code h =
-    let size = length (slice_index_or form.book.trees (get_or form.table (length place) 0) []) in
+    let cut = next_tree form.book.trees form.table place in
+    let size = length cut.tree in
     let none : size - code ≡ 0 = omega (arith, h) in
-    ap (λ n. flat_map (λ c. map (λ rest. place ++ c ∷ rest) (places (trees_of form.book.trees (drop (length place + 1) form.table)))) (range_with_len code n)) none
+    ap (λ n. flat_map (λ c. map (λ rest. place ++ c ∷ rest) (places (trees_of form.book.trees (drop (length place + 1) form.table)))) (filter (is_within cut) (range_with_len code n))) none
 
 -- after the lines of one code the others are read
 pub code-read : (form : Template) (now next : ReleaseSoFar) (place : List ℕ) (code : ℕ) (whole : Result ReleaseSoFar LinePlace)
-    → code < length (slice_index_or form.book.trees (get_or form.table (length place) 0) [])
+    → code < length (next_tree form.book.trees form.table place).tree → is_within (next_tree form.book.trees form.table place) code ≡ true
     → read_places form now (places_from form place code) ≡ whole → read_places form now (places_below form (place ++ code ∷ [])) ≡ Ok next → read_places form next (places_from form place (code + 1)) ≡ whole
-code-read form now next place code whole small before read =
+code-read form now next place code whole small kept before read =
     sym (ap (λ r. r >>= λ last. read_places form last (places_from form place (code + 1))) read)
     ∙ sym (read-more form now (places_below form (place ++ code ∷ [])) (places_from form place (code + 1)))
-    ∙ ap (λ xs. read_places form now xs) (sym (from-next form place code small))
+    ∙ ap (λ xs. read_places form now xs) (sym (from-next form place code small kept))
     ∙ before
 
 -- a bad line among those of one code is the first bad line of all
 pub code-bad : (form : Template) (now : ReleaseSoFar) (place : List ℕ) (code : ℕ) (whole : Result ReleaseSoFar LinePlace) (fault : Option LinePlace)
-    → code < length (slice_index_or form.book.trees (get_or form.table (length place) 0) [])
+    → code < length (next_tree form.book.trees form.table place).tree → is_within (next_tree form.book.trees form.table place) code ≡ true
     → read_places form now (places_from form place code) ≡ whole → Fails fault (read_places form now (places_below form (place ++ code ∷ []))) → Fails fault whole
-code-bad form now place code whole None small before bad = tt
-code-bad form now place code whole (Some fault) small before bad =
+code-bad form now place code whole None small kept before bad = tt
+code-bad form now place code whole (Some fault) small kept before bad =
     sym before
-    ∙ ap (λ xs. read_places form now xs) (from-next form place code small)
+    ∙ ap (λ xs. read_places form now xs) (from-next form place code small kept)
     ∙ read-more form now (places_below form (place ++ code ∷ [])) (places_from form place (code + 1))
     ∙ ap (λ r. r >>= λ last. read_places form last (places_from form place (code + 1))) bad

@@ -7,6 +7,7 @@ use Rattle.sdc_base.specs.Lines.{is_line_feed}
 use Rattle.sdc_base.specs.Numbers.{read_units}
 use Rattle.sdc_base.specs.Cells.{trees_of}
 use Rattle.sdc_base.specs.TableText.{line_text, codes_of_place, shown_text}
+use Rattle.sdc_base.specs.declared.dimension.Dimension.{Dimension}
 use Rattle.linked_tables.specs.declared.mark.Mark.{Mark}
 use Rattle.linked_tables.specs.BookViews.{BookView}
 
@@ -18,7 +19,7 @@ rest_behind line bytes = if bytes_eq (take (length line) bytes) line then Some (
 pub record Template : Type 0 where
   pub book : BookView
   pub t : ℕ
-  pub table : List ℕ
+  pub table : List Dimension
   pub decimals : ℕ
   pub rounded : Bool
 

@@ -5,19 +5,20 @@ use Rattle.csv.specs.declared.writer.Writer.{Writer}
 use Rattle.csv.specs.Writing.{default_writer, writer_setup, fields_written, has_written, text_written}
 use Rattle.sdc_base.specs.Cells.{places, trees_of}
 use Rattle.sdc_base.specs.TableText.{line_text, codes_of_place, shown_text}
+use Rattle.sdc_base.specs.declared.dimension.Dimension.{Dimension}
 use Rattle.linked_tables.specs.BookViews.{BookView}
 use Rattle.linked_tables.specs.BookCells.{name_in_table}
 use Rattle.release_writer.specs.ShownCells.{number_shown}
 use Rattle.release_writer.specs.declared.shown.Shown.{Shown}
 
 -- the line of a place: its codes and what its cell shows
-abbrev pub place_line : BookView → List ℕ → ℕ → Shown → List ℕ → List ℕ
+abbrev pub place_line : BookView → List Dimension → ℕ → Shown → List ℕ → List ℕ
 place_line book table decimals how place =
     line_text (codes_of_place (trees_of book.trees table) place
     ++ shown_text decimals (number_shown book how (name_in_table book table place)) ∷ [])
 
 -- the lines of the places that begin with this one
-abbrev pub lines_below : BookView → List ℕ → ℕ → Shown → List ℕ → List ℕ
+abbrev pub lines_below : BookView → List Dimension → ℕ → Shown → List ℕ → List ℕ
 lines_below book table decimals how place =
     flat_map (λ rest. place_line book table decimals how (place ++ rest))
     (places (trees_of book.trees (drop (length place) table)))

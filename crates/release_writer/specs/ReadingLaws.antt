@@ -2,6 +2,7 @@
 use Rattle.std.specs.Prelude.{◌≡◌, ◌<◌, ℕ, Bool, true, false, List, [], ◌∷◌, length, slice_get, Option, ℤ, pos, Ok}
 use Rattle.std.specs.Option.{option_and_then}
 use Rattle.sdc_base.specs.TableText.{table_text}
+use Rattle.sdc_base.specs.declared.dimension.Dimension.{Dimension}
 use Rattle.linked_tables.specs.BookViews.{BookView}
 use Rattle.linked_tables.specs.BookCells.{cells, number_of}
 use Rattle.release_writer.specs.ShownCells.{open_truth}
@@ -9,7 +10,8 @@ use Rattle.release_writer.specs.ReleaseReading.{hidden_read, rounded_read}
 use Rattle.sdc_base.specs.Numbers.{too_wide}
 
 -- the bytes are the texts of tables, each with its names, in which each cell of the book shows this
-abbrev pub AreTexts : BookView → ℕ → (ℕ → Option ℤ) → List (List ℕ) → List (List (List ℕ)) → List (List ℕ) → Type 0
+abbrev pub AreTexts : BookView → ℕ → (ℕ → Option ℤ) → List (List Dimension) → List (List (List ℕ)) → List (List ℕ)
+    → Type 0
 AreTexts book decimals shown [] names files = Unit {0}
 AreTexts book decimals shown (table ∷ tables) (own ∷ names) (bytes ∷ files) =
     (bytes ≡ table_text book.trees table own decimals (λ name. option_and_then shown (number_of book name)))

@@ -4,6 +4,7 @@ use Rattle.std.specs.Option.{unwrap_or}
 use Rattle.sdc_base.specs.Cells.{places, trees_of}
 use Rattle.sdc_base.specs.Steps.{◌>>=◌, or_fault, refuse, map_ok}
 use Rattle.sdc_base.specs.TableText.{line_text}
+use Rattle.sdc_base.specs.declared.dimension.Dimension.{Dimension}
 use Rattle.linked_tables.specs.BookViews.{BookView}
 use Rattle.linked_tables.specs.BookCells.{name_in_table, number_of}
 use Rattle.release_writer.specs.LineChoices.{Template, rest_behind, value_there}
@@ -61,7 +62,7 @@ read_table form names bytes shown = do
 
 -- Tables from number t on are read, each with its names and its bytes: what their cells show, or the first bad line.
 -- A cell that several tables have shows the same in each.
-unfoldable pub read_tables : BookView → ℕ → Bool → ℕ → List (List ℕ) → List (List (List ℕ)) → List (List ℕ)
+unfoldable pub read_tables : BookView → ℕ → Bool → ℕ → List (List Dimension) → List (List (List ℕ)) → List (List ℕ)
     → List (Option ℤ) → Result (List (Option ℤ)) LinePlace
 read_tables book decimals rounded t (table ∷ tables) (names ∷ others) (bytes ∷ files) shown = do
   next ← read_table (record { book = book; t = t; table = table; decimals = decimals; rounded = rounded }) names bytes

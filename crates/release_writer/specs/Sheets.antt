@@ -2,6 +2,7 @@
 use Rattle.std.specs.Prelude.{◌≡◌, ◌≤◌, ◌<◌, ◌+◌, ℕ, [], slice_index_or, length, drop, map, ◌++◌, slice_get, List, All, Option, None, Some, option_map, ℤ, pos, ◌≤ℤ◌}
 use Rattle.std.specs.Option.{ForSome}
 use Rattle.sdc_base.specs.Cells.{places, trees_of}
+use Rattle.sdc_base.specs.declared.dimension.Dimension.{Dimension}
 use Rattle.linked_tables.specs.BookViews.{BookView}
 use Rattle.release_writer.specs.ReleaseReading.{ReleaseSoFar, LinePlace}
 use Rattle.release_writer.specs.LineChoices.{Template}
@@ -52,6 +53,6 @@ places_below form place =
     map (λ rest. place ++ rest) (places (trees_of form.book.trees (drop (length place) form.table)))
 
 -- there is one list of names for each table: one name for each of its variables and one for the response
-pub record HaveNames (names : List (List (List ℕ))) (tables : List (List ℕ)) : Type 0 where
+pub record HaveNames (names : List (List (List ℕ))) (tables : List (List Dimension)) : Type 0 where
   pub lists : length names ≡ length tables
   pub each : (t : ℕ) → t < length tables → length (slice_index_or names t []) ≡ length (slice_index_or tables t []) + 1

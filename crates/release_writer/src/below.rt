@@ -46,8 +46,12 @@ fn read_below<'a>(
     if place.len() >= sheet.table.len() {
         return read_place(alloc, sheet, progress, place);
     }
-    let size = sheet.book.size(sheet.table.as_slice()[place.len()]);
+    let dimension = sheet.table.as_slice()[place.len()];
+    let size = sheet.book.size(dimension.variable);
     'codes: for code in 0..size {
+        if !sheet.book.has_code(dimension, code as u32) {
+            continue 'codes;
+        }
         let longer = with_code(place, code as u32);
         read_below(alloc, sheet, progress, longer.as_slice())?;
     }

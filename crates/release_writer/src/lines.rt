@@ -7,7 +7,7 @@ ghost use Rattle.release_writer.specs.Lines.{IsReadyWriter, AppendsText};
 use crate::csv_line::{end_line, put_field};
 use csv::Writer;
 use linked_tables::Book;
-use sdc_base::{Memory, Text};
+use sdc_base::{Dimension, Memory, Text};
 
 /// Writes the line of a table's names, of which one alone isn't empty.
 pub(crate) fn write_names(writer: &mut Writer<Vec<u8>>, names: &[Text]) -> Result<(), Memory>
@@ -27,7 +27,7 @@ pub(crate) fn write_names(writer: &mut Writer<Vec<u8>>, names: &[Text]) -> Resul
 pub(crate) fn write_place(
     writer: &mut Writer<Vec<u8>>,
     book: &Book,
-    table: &[u32],
+    table: &[Dimension],
     place: &[u32],
     number: &[u8],
 ) -> Result<(), Memory>
@@ -39,8 +39,8 @@ pub(crate) fn write_place(
     ensures text { OnOk result (AppendsText writer.old writer.new
         (line_text (codes_of_place (trees_of book.now.trees table.now) place.now ++ number.now ∷ []))) }
 {
-    'codes: for (k, variable) in table.iter().enumerate() {
-        put_field(writer, code_at(book, *variable, place[k]))?;
+    'codes: for (k, dimension) in table.iter().enumerate() {
+        put_field(writer, code_at(book, dimension.variable, place[k]))?;
     }
     put_field(writer, number)?;
     end_line(writer)

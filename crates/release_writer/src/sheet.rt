@@ -1,11 +1,11 @@
 use linked_tables::Book;
-use sdc_base::{Items, Place};
+use sdc_base::{Dimensions, Items};
 
 /// A table of a release that is read.
 #[derive(Clone, Copy)]
 pub(crate) struct TableLayout<'a> {
     pub(crate) book: &'a Book,
-    pub(crate) table: &'a Place,
+    pub(crate) table: &'a Dimensions,
     pub(crate) t: u32,
     pub(crate) decimals: u8,
     pub(crate) rounded: bool,

@@ -11,7 +11,7 @@ use crate::numbers::number_text;
 use crate::shown::Shown;
 use csv::{Writer, WriterBuilder};
 use linked_tables::Book;
-use sdc_base::{Memory, Place, Text, with_code};
+use sdc_base::{Dimensions, Memory, Text, with_code};
 use std::alloc::Global;
 
 /// The bytes of table `t` of a release: a line of `names`, and then a line for each place of the table in lexicographic
@@ -92,7 +92,7 @@ fn is_empty_line(names: &[Text]) -> bool
 #[derive(Clone, Copy)]
 struct Page<'a> {
     book: &'a Book,
-    table: &'a Place,
+    table: &'a Dimensions,
     t: u32,
     decimals: u8,
     shown: Shown<'a>,
@@ -117,8 +117,12 @@ fn write_below(
     if place.len() >= page.table.len() {
         return write_whole(alloc, writer, page, place);
     }
-    let size = page.book.size(page.table.as_slice()[place.len()]);
+    let dimension = page.table.as_slice()[place.len()];
+    let size = page.book.size(dimension.variable);
     'codes: for code in 0..size {
+        if !page.book.has_code(dimension, code as u32) {
+            continue 'codes;
+        }
         let longer = with_code(place, code as u32);
         write_below(alloc, writer, page, longer.as_slice())?;
     }

@@ -3,6 +3,8 @@ pub mod WholeNumbers
 pub mod TotalLemmas
 pub mod WeakDual
 pub mod Walks
+pub mod CutTrees
+pub mod CutLaws
 pub mod AddingUp
 pub mod FlatTrees
 pub mod InEach

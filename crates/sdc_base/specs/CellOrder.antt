@@ -1,24 +1,24 @@
 -- The order of places and of cells, said apart from the way in which they are listed (own).
-use Rattle.std.specs.Prelude.{◌≡◌, ◌++◌, ℕ, ◌&&◌, nat_lt, Bool, true, false, List, [], ◌∷◌, length, bytes_eq}
+use Rattle.std.specs.Prelude.{◌≡◌, ◌++◌, ℕ, ◌&&◌, Bool, true, false, List, [], ◌∷◌, bytes_eq}
 use Rattle.std.specs.List.{IsDistinct}
 use Rattle.std.specs.List.Sorted.{IsStrictlySortedBy}
 use Rattle.std.specs.Cmp.Lexicographic.{slice_cmp}
 use Rattle.std.specs.Ordering.{nat_cmp}
-use Rattle.sdc_base.specs.Trees.{Tree}
+use Rattle.sdc_base.specs.CutTrees.{CutTree, has_code}
 use Rattle.sdc_base.specs.Records.{Name}
 use Rattle.sdc_base.specs.Cells.{places, is_named, first_names}
 
--- one code for each tree, and each a place of its tree
-abbrev pub is_place_in : List Tree → List ℕ → Bool
+-- one code for each tree, and each a code of its tree
+abbrev pub is_place_in : List CutTree → List ℕ → Bool
 is_place_in [] [] = true
 is_place_in [] (code ∷ place) = false
 is_place_in (tree ∷ trees) [] = false
-is_place_in (tree ∷ trees) (code ∷ place) = nat_lt code (length tree) && is_place_in trees place
+is_place_in (tree ∷ trees) (code ∷ place) = has_code tree code && is_place_in trees place
 
 -- the places of a table are all that there are, and each comes in lexicographic order before those after it
 pub record PlacesAreLexicographic : Type 0 where
-  pub all : (trees : List Tree) (place : List ℕ) → is_named (places trees) place ≡ is_place_in trees place
-  pub ascending : (trees : List Tree) → IsStrictlySortedBy (slice_cmp nat_cmp) (places trees)
+  pub all : (trees : List CutTree) (place : List ℕ) → is_named (places trees) place ≡ is_place_in trees place
+  pub ascending : (trees : List CutTree) → IsStrictlySortedBy (slice_cmp nat_cmp) (places trees)
 
 -- the cells are all names that are given, each once, and those that are given first stand first
 pub record NamesAreFirst : Type 0 where

@@ -1,35 +1,51 @@
 -- Cells of linked tables: their names, and the order in which tables first name them (tau-ARGUS user manual, linked
--- tables).
+-- tables; tables to a depth: own).
 use Rattle.std.specs.Prelude.{ℕ, ◌==◌, Bool, List, [], ◌∷◌, ◌++◌, length, map, flat_map, fold, slice_index_or, if◌then◌else◌, bytes_eq}
 use Rattle.std.specs.List.{list_any, range_with_len}
 use Rattle.sdc_base.specs.Trees.{Tree}
+use Rattle.sdc_base.specs.CutTrees.{CutTree, codes_within, whole_depth}
 use Rattle.sdc_base.specs.Records.{Name}
+use Rattle.sdc_base.specs.declared.dimension.Dimension.{Dimension}
 
--- the places of a table whose variables have these trees, in lexicographic order
-abbrev pub places : List Tree → List (List ℕ)
+-- a variable that a table spans with all its codes
+abbrev pub whole : ℕ → Dimension
+whole variable = record { variable = variable; depth = whole_depth }
+
+-- the table that spans these variables with all their codes
+abbrev pub whole_table : List ℕ → List Dimension
+whole_table variables = map whole variables
+
+-- the places of a table whose variables have these trees, cut at its depths, in lexicographic order
+abbrev pub places : List CutTree → List (List ℕ)
 places [] = [] ∷ []
-places (tree ∷ trees) = flat_map (λ code. map (λ rest. code ∷ rest) (places trees)) (range_with_len 0 (length tree))
+places (tree ∷ trees) = flat_map (λ code. map (λ rest. code ∷ rest) (places trees)) (codes_within tree)
 
 -- the code that a place of a table has for a variable; the total where the table doesn't span it
-abbrev pub code_for : List ℕ → List ℕ → ℕ → ℕ
+abbrev pub code_for : List Dimension → List ℕ → ℕ → ℕ
 code_for [] place variable = 0
-code_for (spanned ∷ table) [] variable = 0
-code_for (spanned ∷ table) (code ∷ place) variable = if spanned == variable then code else code_for table place variable
+code_for (dimension ∷ table) [] variable = 0
+code_for (dimension ∷ table) (code ∷ place) variable =
+    if dimension.variable == variable then code else code_for table place variable
 
 -- the name of a table's place: one code for each of so many variables
-abbrev pub name_of : ℕ → List ℕ → List ℕ → Name
+abbrev pub name_of : ℕ → List Dimension → List ℕ → Name
 name_of variables table place = map (code_for table place) (range_with_len 0 variables)
 
 -- the table spans the variable
-abbrev pub spans : List ℕ → ℕ → Bool
-spans table variable = list_any (λ spanned. spanned == variable) table
+abbrev pub spans : List Dimension → ℕ → Bool
+spans table variable = list_any (λ dimension. dimension.variable == variable) table
 
--- the trees of the variables that a table spans
-abbrev pub trees_of : List Tree → List ℕ → List Tree
-trees_of trees table = map (λ variable. slice_index_or trees variable []) table
+-- the tree of a variable that a table spans, down to the table's depth
+abbrev pub cut_tree : List Tree → Dimension → CutTree
+cut_tree trees dimension =
+    record { tree = slice_index_or trees dimension.variable []; depth = dimension.depth }
+
+-- the trees of the variables that a table spans, each down to the table's depth
+abbrev pub trees_of : List Tree → List Dimension → List CutTree
+trees_of trees table = map (cut_tree trees) table
 
 -- the names that a table gives, in the order of its places
-abbrev pub named_by : List Tree → List ℕ → List Name
+abbrev pub named_by : List Tree → List Dimension → List Name
 named_by trees table = map (name_of (length trees) table) (places (trees_of trees table))
 
 -- the name is among these
@@ -44,6 +60,7 @@ with_name names name = if is_named names name then names else names ++ name ∷ 
 abbrev pub first_names : List Name → List Name
 first_names names = fold with_name [] names
 
--- the cells of tables, each a list of variables: the distinct names in the order in which the tables first name them
-abbrev pub cells_of : List Tree → List (List ℕ) → List Name
+-- The cells of tables: the distinct names in the order in which the tables first name them. Not: a cell anew for each
+-- depth at which a table has it.
+abbrev pub cells_of : List Tree → List (List Dimension) → List Name
 cells_of trees tables = first_names (flat_map (named_by trees) tables)

@@ -1,21 +1,24 @@
 -- Cubes of a cell in a subtable: edges, corners with their signs, and the levels that they serve (handbook, hypercube
 -- method; signs and levels own).
-use Rattle.std.specs.Prelude.{ℕ, ◌==◌, ◌&&◌, ◌||◌, nat_lt, Bool, true, false, not, if◌then◌else◌, List, [], ◌∷◌, ◌++◌, map, filter, flat_map, fold, slice_get, slice_index, slice_index_or, Option, option_map, ℤ, neg_ℤ, ◌+ℤ◌, int_le}
+use Rattle.std.specs.Prelude.{ℕ, ◌==◌, ◌&&◌, ◌||◌, nat_lt, Bool, true, false, not, if◌then◌else◌, List, [], ◌∷◌, ◌++◌, map, filter, flat_map, fold, slice_get, slice_index, Option, option_map, ℤ, neg_ℤ, ◌+ℤ◌, int_le}
 use Rattle.std.specs.List.{filter_map, list_all}
 use Rattle.std.specs.Option.{option_map_or}
-use Rattle.sdc_base.specs.Trees.{Tree, children}
+use Rattle.sdc_base.specs.Trees.{Tree}
+use Rattle.sdc_base.specs.CutTrees.{CutTree, children_within}
 use Rattle.sdc_base.specs.Records.{Name}
+use Rattle.sdc_base.specs.Cells.{cut_tree}
 use Rattle.sdc_base.specs.Kinds.{is_fixed}
 use Rattle.sdc_base.specs.declared.cell.Cell.{Cell}
 use Rattle.sdc_base.specs.declared.cube.Corner.{Corner}
 use Rattle.sdc_base.specs.declared.cube.Edge.{Edge}
+use Rattle.sdc_base.specs.declared.dimension.Dimension.{Dimension}
 use Rattle.sdc_base.specs.declared.facts.Levels.{Levels}
 
 -- ---- edges
 
 -- the codes of a subtable for one variable: the parent and its children
-abbrev pub codes_in : Tree → ℕ → List ℕ
-codes_in tree parent = parent ∷ children tree parent
+abbrev pub codes_in : CutTree → ℕ → List ℕ
+codes_in cut parent = parent ∷ children_within cut parent
 
 -- The edge from a code to its partner. Where one of both is the parent the ends have one sign; two children have
 -- opposite ones.
@@ -27,15 +30,16 @@ abbrev pub edges_to : ℕ → ℕ → List ℕ → List Edge
 edges_to parent code others = map (edge_to parent code) (filter (λ other. not (other == code)) others)
 
 -- the edges from a code: one to each other code of the subtable
-abbrev pub edges_from : Tree → ℕ → ℕ → List Edge
-edges_from tree parent code = edges_to parent code (codes_in tree parent)
+abbrev pub edges_from : CutTree → ℕ → ℕ → List Edge
+edges_from cut parent code = edges_to parent code (codes_in cut parent)
 
 -- the edges from the codes of a cell, variable by variable of a table with these parents
-abbrev pub edges_at : List Tree → Name → List ℕ → List ℕ → List (List Edge)
+abbrev pub edges_at : List Tree → Name → List Dimension → List ℕ → List (List Edge)
 edges_at trees name [] parents = []
-edges_at trees name (variable ∷ table) [] = []
-edges_at trees name (variable ∷ table) (parent ∷ parents) =
-    edges_from (slice_index_or trees variable []) parent (slice_index name variable) ∷ edges_at trees name table parents
+edges_at trees name (dimension ∷ table) [] = []
+edges_at trees name (dimension ∷ table) (parent ∷ parents) =
+    edges_from (cut_tree trees dimension) parent (slice_index name dimension.variable)
+    ∷ edges_at trees name table parents
 
 -- all choices of one of each
 abbrev pub choices : {X : Type 0} → List (List X) → List (List X)
@@ -43,7 +47,7 @@ choices [] = [] ∷ []
 choices (each ∷ more) = flat_map (λ one. map (λ others. one ∷ others) (choices more)) each
 
 -- the cubes with a cell as a corner: all choices of an edge for each variable of the table
-abbrev pub cubes_at : List Tree → Name → List ℕ → List ℕ → List (List Edge)
+abbrev pub cubes_at : List Tree → Name → List Dimension → List ℕ → List (List Edge)
 cubes_at trees name table parents = choices (edges_at trees name table parents)
 
 -- ---- corners

@@ -1,12 +1,13 @@
 -- The definitions on small tables that can be reckoned by hand (own).
-use Rattle.std.specs.Prelude.{◌≡◌, ℕ, true, false, List, [], ◌∷◌, codes, map, None, Some, ℤ, pos}
+use Rattle.std.specs.Prelude.{◌≡◌, ℕ, true, false, List, [], ◌∷◌, codes, length, map, None, Some, ℤ, pos}
 use Rattle.sdc_base.specs.Trees.{Tree, flat_tree, is_under, places_upward}
 use Rattle.sdc_base.specs.Records.{Name}
-use Rattle.sdc_base.specs.Cells.{cells_of}
+use Rattle.sdc_base.specs.Cells.{cells_of, named_by, whole, whole_table}
 use Rattle.sdc_base.specs.Relations.{relations_among}
 use Rattle.sdc_base.specs.Sums.{truth, freq}
 use Rattle.sdc_base.specs.Largest.{largest_in}
 use Rattle.sdc_base.specs.Rules.{frequency_names, first_named}
+use Rattle.sdc_base.specs.declared.dimension.Dimension.{Dimension}
 use Rattle.sdc_base.specs.declared.rows.Row.{Row}
 
 -- a record of one variable
@@ -44,7 +45,7 @@ freqs rows = map (λ name. freq (two_codes ∷ []) name rows) three_cells
 -- One flat variable: with three records in a no cell is named, with two a is.
 -- A rule by `freq ≤ n` would name a with three records.
 pub record FlatTable : Type 0 where
-  pub cells : cells_of (two_codes ∷ []) ((0 ∷ []) ∷ []) ≡ three_cells
+  pub cells : cells_of (two_codes ∷ []) (whole_table (0 ∷ []) ∷ []) ≡ three_cells
   pub sums : truths seven_rows ≡ pos 150 ∷ pos 60 ∷ pos 90 ∷ []
   pub counts : freqs seven_rows ≡ 7 ∷ 3 ∷ 4 ∷ []
   pub none : first_named 3 (two_codes ∷ []) seven_rows three_cells ≡ None
@@ -84,10 +85,10 @@ pub record TwoLevels : Type 0 where
 -- Tables that share margins: what an earlier table named isn't named again, and names aren't sorted.
 -- A table that spans the second variable first goes through its own places in lexicographic order.
 pub record SharedMargins : Type 0 where
-  pub margin_first : cells_of (two_codes ∷ two_codes ∷ []) ((0 ∷ []) ∷ (0 ∷ 1 ∷ []) ∷ [])
+  pub margin_first : cells_of (two_codes ∷ two_codes ∷ []) (whole_table (0 ∷ []) ∷ whole_table (0 ∷ 1 ∷ []) ∷ [])
       ≡ (0 ∷ 0 ∷ []) ∷ (1 ∷ 0 ∷ []) ∷ (2 ∷ 0 ∷ []) ∷ (0 ∷ 1 ∷ []) ∷ (0 ∷ 2 ∷ []) ∷ (1 ∷ 1 ∷ []) ∷ (1 ∷ 2 ∷ [])
       ∷ (2 ∷ 1 ∷ []) ∷ (2 ∷ 2 ∷ []) ∷ []
-  pub turned : cells_of (two_codes ∷ two_codes ∷ []) ((1 ∷ 0 ∷ []) ∷ [])
+  pub turned : cells_of (two_codes ∷ two_codes ∷ []) (whole_table (1 ∷ 0 ∷ []) ∷ [])
       ≡ (0 ∷ 0 ∷ []) ∷ (1 ∷ 0 ∷ []) ∷ (2 ∷ 0 ∷ []) ∷ (0 ∷ 1 ∷ []) ∷ (1 ∷ 1 ∷ []) ∷ (2 ∷ 1 ∷ []) ∷ (0 ∷ 2 ∷ [])
       ∷ (1 ∷ 2 ∷ []) ∷ (2 ∷ 2 ∷ []) ∷ []
 
@@ -95,9 +96,44 @@ pub record SharedMargins : Type 0 where
 -- of codes, where all codes below a code in the place of those right below would give the total five parts; and of a
 -- table that doesn't span the second variable, which has none for it.
 pub record RelationRows : Type 0 where
-  pub two_way : relations_among (two_codes ∷ two_codes ∷ []) ((0 ∷ 1 ∷ []) ∷ [])
+  pub two_way : relations_among (two_codes ∷ two_codes ∷ []) (whole_table (0 ∷ 1 ∷ []) ∷ [])
       ≡ (0, 3 ∷ 6 ∷ []) ∷ (0, 1 ∷ 2 ∷ []) ∷ (1, 4 ∷ 7 ∷ []) ∷ (2, 5 ∷ 8 ∷ []) ∷ (3, 4 ∷ 5 ∷ []) ∷ (6, 7 ∷ 8 ∷ []) ∷ []
-  pub linked : relations_among (two_codes ∷ two_codes ∷ []) ((0 ∷ []) ∷ (1 ∷ []) ∷ [])
+  pub linked : relations_among (two_codes ∷ two_codes ∷ []) (whole_table (0 ∷ []) ∷ whole_table (1 ∷ []) ∷ [])
       ≡ (0, 1 ∷ 2 ∷ []) ∷ (0, 3 ∷ 4 ∷ []) ∷ []
-  pub levels : relations_among (two_levels ∷ []) ((0 ∷ []) ∷ []) ≡ (0, 1 ∷ 4 ∷ []) ∷ (1, 2 ∷ 3 ∷ []) ∷ (4, 5 ∷ []) ∷ []
-  pub not_spanned : relations_among (two_codes ∷ two_codes ∷ []) ((0 ∷ []) ∷ []) ≡ (0, 1 ∷ 2 ∷ []) ∷ []
+  pub levels : relations_among (two_levels ∷ []) (whole_table (0 ∷ []) ∷ []) ≡ (0, 1 ∷ 4 ∷ []) ∷ (1, 2 ∷ 3 ∷ []) ∷ (4, 5 ∷ []) ∷ []
+  pub not_spanned : relations_among (two_codes ∷ two_codes ∷ []) (whole_table (0 ∷ []) ∷ []) ≡ (0, 1 ∷ 2 ∷ []) ∷ []
+
+-- Total, 1, 11 and 12 under 1, 2, 21 and 22 under 2
+abbrev pub two_by_two : Tree
+two_by_two =
+    (codes "Total", None) ∷ (codes "1", Some 0) ∷ (codes "11", Some 1) ∷ (codes "12", Some 1) ∷ (codes "2", Some 0)
+    ∷ (codes "21", Some 4) ∷ (codes "22", Some 4) ∷ []
+
+-- a variable with these codes, and one of two codes
+abbrev pub deep_and_flat : List Tree
+deep_and_flat = two_by_two ∷ two_codes ∷ []
+
+-- the first variable down to the codes right below the total
+abbrev pub upper_codes : Dimension
+upper_codes = record { variable = 0; depth = 1 }
+
+-- both variables with all their codes, and the first one alone to depth 1
+abbrev pub table_beside_shallow : List (List Dimension)
+table_beside_shallow = whole_table (0 ∷ 1 ∷ []) ∷ (upper_codes ∷ []) ∷ []
+
+-- both variables, the first to depth 1, and the first one alone with all its codes
+abbrev pub shallow_table_beside : List (List Dimension)
+shallow_table_beside = (upper_codes ∷ whole 1 ∷ []) ∷ whole_table (0 ∷ []) ∷ []
+
+-- One classification at two depths. A table to depth 1 has its cells from a deeper one that spans its variables, codes
+-- above its last level as well. Where the table of both variables ends at depth 1, the cells of codes 1 and 2 are still
+-- the sums of those below them in the other table; the cells of code 1 with a code of the second variable are no sums
+-- over the first, although the other table has codes below 1: a relation would have parts that no table has.
+pub record DepthRows : Type 0 where
+  pub shared : length (cells_of deep_and_flat table_beside_shallow) ≡ 21
+  pub upper : named_by deep_and_flat (upper_codes ∷ []) ≡ (0 ∷ 0 ∷ []) ∷ (1 ∷ 0 ∷ []) ∷ (4 ∷ 0 ∷ []) ∷ []
+  pub nine : length (named_by deep_and_flat (upper_codes ∷ whole 1 ∷ [])) ≡ 9
+  pub thirteen : length (cells_of deep_and_flat shallow_table_beside) ≡ 13
+  pub relations : relations_among deep_and_flat shallow_table_beside
+      ≡ (0, 3 ∷ 6 ∷ []) ∷ (0, 1 ∷ 2 ∷ []) ∷ (1, 4 ∷ 7 ∷ []) ∷ (2, 5 ∷ 8 ∷ []) ∷ (3, 9 ∷ 10 ∷ []) ∷ (3, 4 ∷ 5 ∷ [])
+      ∷ (6, 11 ∷ 12 ∷ []) ∷ (6, 7 ∷ 8 ∷ []) ∷ []

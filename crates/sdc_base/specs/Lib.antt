@@ -9,6 +9,8 @@ pub mod Blanks
 pub mod Tokens
 pub mod Numbers
 pub mod Trees
+pub mod CutTrees
+pub mod CutLaws
 pub mod Records
 pub mod Cells
 pub mod CellOrder

@@ -3,7 +3,9 @@ use Rattle.std.specs.Prelude.{ℕ, ◌==◌, ◌||◌, Bool, List, [], ◌∷◌
 use Rattle.std.specs.List.{list_any, join_with_byte}
 use Rattle.sdc_base.specs.Numbers.{units_text}
 use Rattle.sdc_base.specs.Trees.{Tree, code_in}
+use Rattle.sdc_base.specs.CutTrees.{CutTree}
 use Rattle.sdc_base.specs.Cells.{places, trees_of, name_of}
+use Rattle.sdc_base.specs.declared.dimension.Dimension.{Dimension}
 
 -- the comma, which separates fields
 abbrev pub comma : ℕ
@@ -31,10 +33,10 @@ abbrev pub line_text : List (List ℕ) → List ℕ
 line_text fields = join_with_byte comma (map field_text fields) ++ 10 ∷ []
 
 -- the codes of a place, one for each of the table's variables
-abbrev pub codes_of_place : List Tree → List ℕ → List (List ℕ)
+abbrev pub codes_of_place : List CutTree → List ℕ → List (List ℕ)
 codes_of_place [] place = []
 codes_of_place (tree ∷ trees) [] = []
-codes_of_place (tree ∷ trees) (code ∷ place) = code_in tree code ∷ codes_of_place trees place
+codes_of_place (tree ∷ trees) (code ∷ place) = code_in tree.tree code ∷ codes_of_place trees place
 
 -- what a cell shows: its number with the unit's decimals, or `x` where it is hidden (None), whatever hides it
 abbrev pub shown_text : ℕ → Option ℤ → List ℕ
@@ -44,7 +46,7 @@ shown_text decimals (Some number) = units_text (unsigned_abs number) decimals
 -- The text of a table over all trees: a line of its names (those of its variables and of the response),
 -- and a line for each place in lexicographic order: its codes and what its cell shows.
 -- `shown` gives what the cell of each name shows, so nothing else enters the text.
-abbrev pub table_text : List Tree → List ℕ → List (List ℕ) → ℕ → (List ℕ → Option ℤ) → List ℕ
+abbrev pub table_text : List Tree → List Dimension → List (List ℕ) → ℕ → (List ℕ → Option ℤ) → List ℕ
 table_text trees table names decimals shown =
     line_text names
     ++ flat_map (λ place. line_text (codes_of_place (trees_of trees table) place

@@ -1,6 +1,7 @@
 ghost use Rattle.std.specs.Prelude.{◌≡◌, ◌∷◌, ◌++◌, ◌<◌, ◌≤◌, [], length};
 ghost use Rattle.sdc_base.specs.Cells.{code_for, name_of};
 
+use crate::dimension::Dimension;
 use crate::few::{Few, Place};
 use arrayvec::ArrayVec;
 
@@ -11,7 +12,7 @@ use arrayvec::ArrayVec;
 /// in the table's order. It takes no memory, and looks through the table once for each variable. Cells of linked
 /// tables are the manual's.
 #[tactic(auto, using(crate::proofs::PlaceLists::name_length, crate::proofs::PlaceLists::name_more))]
-pub fn name_at(variables: usize, table: &[u32], place: &[u32]) -> Place
+pub fn name_at(variables: usize, table: &[Dimension], place: &[u32]) -> Place
     requires { variables ≤ 8 }
     ensures { result ≡ name_of variables table.now place.now }
 {
@@ -39,14 +40,14 @@ pub fn with_code(place: &[u32], code: u32) -> Place
 }
 
 // The code that a table's place has for a variable.
-fn code_at(table: &[u32], place: &[u32], variable: u32) -> u32
+fn code_at(table: &[Dimension], place: &[u32], variable: u32) -> u32
     ensures { result ≡ code_for table.now place.now variable }
 {
-    for (k, spanned) in table.iter().enumerate() {
+    for (k, dimension) in table.iter().enumerate() {
         if k >= place.len() {
             return 0;
         }
-        if *spanned == variable {
+        if dimension.variable == variable {
             return place[k];
         }
     }

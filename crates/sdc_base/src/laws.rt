@@ -1,10 +1,11 @@
 //! Laws of the definitions, each the contract of a function with an empty body.
 
 ghost use Rattle.sdc_base.specs.Trees.{UnderIsTested, FlatIsCodeTree};
+ghost use Rattle.sdc_base.specs.CutLaws.{DeeperChangesNothing};
 ghost use Rattle.sdc_base.specs.Records.{FallsWhereUnderInEach};
 ghost use Rattle.sdc_base.specs.CellOrder.{PlacesAreLexicographic, NamesAreFirst};
 ghost use Rattle.sdc_base.specs.Shares.{RankingIsFair};
-ghost use Rattle.sdc_base.specs.Examples.{FlatTable, WeightSteps, LastInPart, TwoLevels, SharedMargins, RelationRows};
+ghost use Rattle.sdc_base.specs.Examples.{FlatTable, WeightSteps, LastInPart, TwoLevels, SharedMargins, RelationRows, DepthRows};
 ghost use Rattle.sdc_base.specs.CubeExamples.{CubeRows};
 ghost use Rattle.sdc_base.specs.RuleExamples.{RuleRows};
 ghost use Rattle.sdc_base.specs.AddingUp.{TablesAddUp};
@@ -19,6 +20,12 @@ pub fn under_is_tested()
 #[tactic(auto, using(crate::proofs::FlatTrees::flat_is_code_tree))]
 pub fn flat_is_code_tree()
     ensures { FlatIsCodeTree }
+{}
+
+/// A table to a depth that no code of a tree exceeds has all its codes, and below each all its children.
+#[tactic(auto, using(crate::proofs::CutLaws::deeper_changes_nothing))]
+pub fn deeper_changes_nothing()
+    ensures { DeeperChangesNothing }
 {}
 
 /// A record falls in a cell exactly where each of its codes is under the cell's.
@@ -46,7 +53,7 @@ pub fn ranking_is_fair()
 {}
 
 /// The definitions give what small tables come to by hand.
-#[tactic(auto, using(crate::proofs::SmallTables::flat_table, crate::proofs::SmallTables::weight_steps, crate::proofs::SmallTables::last_in_part, crate::proofs::SmallTables::two_levels, crate::proofs::SmallTables::shared_margins, crate::proofs::SmallTables::relation_rows, crate::proofs::SmallTables::rule_rows, crate::proofs::SmallTables::cube_rows))]
+#[tactic(auto, using(crate::proofs::SmallTables::flat_table, crate::proofs::SmallTables::weight_steps, crate::proofs::SmallTables::last_in_part, crate::proofs::SmallTables::two_levels, crate::proofs::SmallTables::shared_margins, crate::proofs::SmallTables::relation_rows, crate::proofs::SmallTables::depth_rows, crate::proofs::SmallTables::rule_rows, crate::proofs::SmallTables::cube_rows))]
 pub fn examples()
     ensures flat_table { FlatTable }
     ensures weight_steps { WeightSteps }
@@ -54,6 +61,7 @@ pub fn examples()
     ensures two_levels { TwoLevels }
     ensures shared_margins { SharedMargins }
     ensures relation_rows { RelationRows }
+    ensures depth_rows { DepthRows }
     ensures rule_rows { RuleRows }
     ensures cube_rows { CubeRows }
 {}

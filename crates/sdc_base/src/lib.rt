@@ -6,6 +6,7 @@ mod cells;
 mod component_rows;
 mod connected;
 mod cube;
+mod dimension;
 mod duality;
 mod ends;
 mod facts;
@@ -35,6 +36,7 @@ pub use cells::{name_at, with_code};
 pub use component_rows::rows_of;
 pub use connected::{Grouping, components};
 pub use cube::{Corner, Cube, Edge, Subtable};
+pub use dimension::{Dimension, Dimensions, whole_table};
 pub use duality::weak_duality;
 pub use ends::{End, Ends, ends_of};
 pub use facts::{CellFacts, Levels};
@@ -43,8 +45,8 @@ pub use fraction::Fraction;
 pub use hidden::{Hidden, is_hidden};
 pub use items::Items;
 pub use laws::{
-    examples, falls_where_under_in_each, flat_is_code_tree, names_are_first,
-    places_are_lexicographic, ranking_is_fair, tables_add_up, under_is_tested,
+    deeper_changes_nothing, examples, falls_where_under_in_each, flat_is_code_tree,
+    names_are_first, places_are_lexicographic, ranking_is_fair, tables_add_up, under_is_tested,
 };
 pub use memory::Memory;
 pub use method::Method;

@@ -1,9 +1,11 @@
 -- The last step of a walk up to a code.
-use Rattle.std.proofs.Common.{◌≡◌, ◌≢◌, ℕ, zero, suc, ◌+◌, ◌<◌, ◌≤◌, ◌==◌, ◌||◌, Bool, true, false, List, [], ◌∷◌, length, if◌then◌else◌, Option, None, Some, is_some, refl, ap, sym, ◌∙◌, subst, arith}
+use Rattle.std.proofs.Common.{◌≡◌, ℕ, zero, suc, ◌<◌, ◌≤◌, ◌==◌, ◌||◌, Bool, true, false, [], length, if◌then◌else◌, Option, None, Some, is_some, refl, ap, sym, ◌∙◌, subst, arith}
 use Rattle.std.specs.List.{list_any}
 use Rattle.std.specs.Option.{option_map_or}
 use Rattle.std.proofs.lemmas.Bool.Decides.{nat_tests, Decides-eqb}
 use Rattle.sdc_base.specs.Trees.{Tree, IsCodeTree, is_child, is_under, met_in, parent_at}
+use Rattle.sdc_base.specs.CutTrees.{CutTree, is_within}
+use Rattle.sdc_base.proofs.CutTrees.{parent-within}
 use Rattle.sdc_base.proofs.Walks.{met-none, parent_is_earlier}
 
 -- the first place of a walk whose parent is `above`
@@ -132,3 +134,21 @@ step-apart tree is place above below h =
     let less : above < below = parent_is_earlier tree is below above child.0 in
     let late = child.1 in
     grind (arith, nat_tests, less, late)
+
+-- a walk from a code of a cut tree goes through such codes alone
+pub step-within : (cut : CutTree) → IsCodeTree cut.tree → (steps place above below : ℕ) → is_within cut place ≡ true → step_in steps cut.tree above (Some place) ≡ Some below → is_within cut below ≡ true
+step-within cut is zero place above below within h = absurd cc
+step-within cut is (suc steps) place above below within h = by (is_child cut.tree above place) (parent_at cut.tree place) refl (λ parent at rest. step-within cut is steps parent above below (parent-within cut is place parent at within) rest) h
+  where
+    same-of : {x y : ℕ} → Some x ≡ Some y → x ≡ y
+    same-of e = cc
+
+    none-some : (found : Option ℕ) → found ≡ None → found ≡ Some below → is_within cut below ≡ true
+    none-some None e g = cc
+    none-some (Some x) e g = cc
+
+    by : (b : Bool) (found : Option ℕ) → parent_at cut.tree place ≡ found → ((parent : ℕ) → parent_at cut.tree place ≡ Some parent → step_in steps cut.tree above (Some parent) ≡ Some below → is_within cut below ≡ true)
+        → (if b then Some place else step_in steps cut.tree above found) ≡ Some below → is_within cut below ≡ true
+    by true found at rest e = subst (λ one. is_within cut one ≡ true) (same-of e) within
+    by false None at rest e = none-some (step_in steps cut.tree above None) (step-none steps cut.tree above) e
+    by false (Some parent) at rest e = rest parent at e

@@ -14,6 +14,7 @@ use Rattle.sdc_base.specs.Trees.{Tree}
 use Rattle.sdc_base.specs.Records.{Name, row_falls}
 use Rattle.sdc_base.specs.Sums.{rows_in, weighted_value}
 use Rattle.sdc_base.specs.Cells.{cells_of, is_named, named_by}
+use Rattle.sdc_base.specs.declared.dimension.Dimension.{Dimension}
 use Rattle.sdc_base.specs.declared.rows.Row.{Row}
 use Rattle.sdc_base.proofs.FirstNames.{names_are_first}
 use Rattle.linked_tables.specs.declared.mark.Mark.{Mark}
@@ -21,7 +22,7 @@ use Rattle.linked_tables.specs.BookViews.{BookView}
 use Rattle.linked_tables.specs.BookCells.{IsBook, cells, first_own}
 use Rattle.linked_tables.proofs.Sharing.{name-long}
 use Rattle.tabulate.specs.MarkRecords.{HaveOneScale, HaveScalesWithin, MarksHoldRecords, HoldsRecords, hidden_at, settings_at, settings_of, worth_of_record}
-use Rattle.tabulate.specs.RecordsByPlace.{GaveRecords, rows_for, variables_of}
+use Rattle.tabulate.specs.RecordsByPlace.{GaveRecords, rows_for, dimensions_of}
 use Rattle.tabulate.specs.UpperCells.{PassedRecords, after_variables}
 use Rattle.tabulate.specs.EmptyLists.{HaveEmptyLists}
 use Rattle.sdc_base.specs.Truths.{IsTruth}
@@ -83,7 +84,7 @@ started-given old new keep scale rows started none = λ cell mark at.
 
 -- ---- from table to table
 
-long-among : (trees : List Tree) (tables : List (List ℕ)) (name : Name) → is_named (flat_map (named_by trees) tables) name ≡ true → length name ≡ length trees
+long-among : (trees : List Tree) (tables : List (List Dimension)) (name : Name) → is_named (flat_map (named_by trees) tables) name ≡ true → length name ≡ length trees
 long-among trees [] name h = cc
 long-among trees (table ∷ tables) name h = by (λ more. long-among trees tables name more) (is_named (named_by trees table) name) refl (sym (list_any-append (bytes_eq name) (named_by trees table) (flat_map (named_by trees) tables)) ∙ h)
   where
@@ -106,23 +107,23 @@ cell-name book now keep scale cell mark is kept at = by (slice_get book.marks ce
         let each = is.one_each in
         read-within (cells book) cell (omega (arith, below, each))
 
-pub table-given : (book now mid next : BookView) (keep scale : ℕ) (rows : List Row) (t first past : ℕ) (table : List ℕ) → IsBook book → All (IsOf book.trees) rows → slice_get book.tables t ≡ Some table → now ≡ record book { marks = now.marks }
-    → ((cell : ℕ) → settings_at next.marks cell ≡ started_at book.marks keep scale cell) → first ≡ first_own now t → past ≡ first_own mid (t + 1) → GaveRecords now mid t first rows → PassedRecords mid next (after_variables mid first past (variables_of mid t)) → MarksHoldRecords now.marks (given_to book rows t)
+pub table-given : (book now mid next : BookView) (keep scale : ℕ) (rows : List Row) (t first past : ℕ) (table : List Dimension) → IsBook book → All (IsOf book.trees) rows → slice_get book.tables t ≡ Some table → now ≡ record book { marks = now.marks }
+    → ((cell : ℕ) → settings_at next.marks cell ≡ started_at book.marks keep scale cell) → first ≡ first_own now t → past ≡ first_own mid (t + 1) → GaveRecords now mid t first rows → PassedRecords mid next (after_variables mid first past (dimensions_of mid t)) → MarksHoldRecords now.marks (given_to book rows t)
     → MarksHoldRecords next.marks (given_to book rows (t + 1))
 table-given book now mid next keep scale rows t first past table is good at frame kept start stop all passed given = λ cell mark here.
     let name = cell-name book next keep scale cell mark is (kept cell) here in
     let framed : mid ≡ record book { marks = mid.marks } = all.frame ∙ ap (λ (b : BookView). record b { marks = mid.marks }) frame in
     let own : first ≡ first_own book t = start ∙ ap (λ (b : BookView). first_own b t) frame in
     let last : past ≡ first_own book (t + 1) = stop ∙ ap (λ (b : BookView). first_own b (t + 1)) framed in
-    let spans : variables_of mid t ≡ table = ap (λ (b : BookView). variables_of b t) framed ∙ spanned-is book t table at in
+    let spans : dimensions_of mid t ≡ table = ap (λ (b : BookView). dimensions_of b t) framed ∙ spanned-is book t table at in
     let each : (one : ℕ) → given_to book rows t one ++ rows_for now t first rows one ≡ placed_in book rows t one = λ one.
     ap (λ (b : BookView). given_to book rows t one ++ rows_for b t first rows one) frame ∙ ap (λ n. given_to book rows t one ++ rows_for book t n rows one) own
     in
     let placed : MarksHoldRecords mid.marks (placed_in book rows t) = given-as mid.marks (λ one. given_to book rows t one ++ rows_for now t first rows one) (placed_in book rows t) each (all.given (given_to book rows t) given) in
-    let same : after_variables mid first past (variables_of mid t) (placed_in book rows t) cell ≡ after_variables book (first_own book t) (first_own book (t + 1)) table (placed_in book rows t) cell =
-    ap (λ (b : BookView). after_variables b first past (variables_of mid t) (placed_in book rows t) cell) framed
-    ∙ ap (λ n. after_variables book n past (variables_of mid t) (placed_in book rows t) cell) own
-    ∙ ap (λ n. after_variables book (first_own book t) n (variables_of mid t) (placed_in book rows t) cell) last
+    let same : after_variables mid first past (dimensions_of mid t) (placed_in book rows t) cell ≡ after_variables book (first_own book t) (first_own book (t + 1)) table (placed_in book rows t) cell =
+    ap (λ (b : BookView). after_variables b first past (dimensions_of mid t) (placed_in book rows t) cell) framed
+    ∙ ap (λ n. after_variables book n past (dimensions_of mid t) (placed_in book rows t) cell) own
+    ∙ ap (λ n. after_variables book (first_own book t) n (dimensions_of mid t) (placed_in book rows t) cell) last
     ∙ ap (λ some. after_variables book (first_own book t) (first_own book (t + 1)) some (placed_in book rows t) cell) spans
     in
     holds-turned mark (after_variables book (first_own book t) (first_own book (t + 1)) table (placed_in book rows t) cell) (given_to book rows (t + 1) cell)

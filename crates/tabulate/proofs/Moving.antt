@@ -1,7 +1,7 @@
 -- Cells whose names differ for one variable alone: which table has them, and which has the lower number.
-use Rattle.std.proofs.Common.{◌≡◌, ◌≢◌, ℕ, zero, suc, ◌+◌, ◌<◌, ◌≤◌, ◌==◌, ◌||◌, nat_lt, Less, Equal, Greater, Bool, true, false, List, [], ◌∷◌, ◌++◌, fold, length, map, take, get_or, set, slice_get, slice_set, slice_index, slice_index_or, bytes_eq, if◌then◌else◌, Option, None, Some, is_some, All, refl, ap, sym, ◌∙◌, subst, arith, ◌⊎◌, inl, inr, append_assoc}
+use Rattle.std.proofs.Common.{◌≡◌, ◌≢◌, ℕ, zero, suc, ◌+◌, ◌<◌, ◌≤◌, ◌==◌, ◌&&◌, ◌||◌, nat_lt, Less, Equal, Greater, Bool, true, false, List, [], ◌∷◌, ◌++◌, fold, length, map, take, get_or, set, slice_get, slice_set, slice_index, slice_index_or, bytes_eq, Option, None, Some, is_some, All, refl, ap, sym, ◌∙◌, subst, arith, ◌⊎◌, inl, inr, append_assoc}
 use Rattle.std.specs.List.{AllByRecursion, flat_map}
-use Rattle.std.specs.Option.{option_and_then}
+use Rattle.std.specs.Option.{option_and_then, option_map_or}
 use Rattle.std.specs.List.Sorted.{IsStrictlySortedBy}
 use Rattle.std.specs.Cmp.Lexicographic.{slice_cmp}
 use Rattle.std.specs.Ordering.{nat_cmp, ordering_then}
@@ -15,16 +15,19 @@ use Rattle.std.proofs.lemmas.Slice.Eq.{bytes_eq-Decides}
 use Rattle.sdc_base.specs.Trees.{Tree, IsCodeTree, parent_at}
 use Rattle.sdc_base.specs.Records.{Name}
 use Rattle.sdc_base.specs.Places.{first_place}
-use Rattle.sdc_base.specs.Cells.{cells_of, is_named, named_by, name_of, places, trees_of, spans, with_name}
+use Rattle.sdc_base.specs.Cells.{cells_of, cut_tree, is_named, named_by, name_of, places, trees_of, spans, with_name}
 use Rattle.sdc_base.specs.CellOrder.{is_place_in}
+use Rattle.sdc_base.specs.CutTrees.{has_code, is_within}
+use Rattle.sdc_base.specs.declared.dimension.Dimension.{Dimension}
+use Rattle.sdc_base.proofs.CutTrees.{parent-within as cut_parent_within}
 use Rattle.sdc_base.proofs.Places.{places_are_lexicographic}
 use Rattle.sdc_base.proofs.FirstNames.{all_named, names_are_first, stay}
 use Rattle.sdc_base.proofs.Walks.{parent_is_earlier}
 use Rattle.linked_tables.specs.BookViews.{BookView}
-use Rattle.linked_tables.specs.Laws.{is_code}
+use Rattle.linked_tables.specs.Laws.{dimension_of, is_code}
 use Rattle.linked_tables.specs.BookCells.{IsBook, IsTable, cells, first_own, number_of}
 use Rattle.linked_tables.proofs.Finding.{found-name, named-found}
-use Rattle.linked_tables.proofs.Sharing.{cells_by_code, codes_at, known-below, name-long, named-codes, place-good, place-of-name}
+use Rattle.linked_tables.proofs.Sharing.{cells_by_code, codes_at, dimension-is, known-below, name-long, named-codes, place-good, place-of-name}
 use Rattle.linked_tables.proofs.TableSteps.{cells-next}
 use Rattle.tabulate.proofs.Standing.{at-front, found-early, front-cells, name-back, named-where, once-cells, own-named, spanned-code}
 use Rattle.linked_tables.proofs.Guessing.{found-where}
@@ -36,9 +39,8 @@ set-back [] variable code = refl
 set-back (one ∷ name) zero code = refl
 set-back (one ∷ name) (suc variable) code = ap (λ rest. one ∷ rest) (set-back name variable code)
 
-pub moved-named : (trees : List Tree) (table : List ℕ) (name : Name) (variable code : ℕ) → IsTable (length trees) table → is_named (named_by trees table) name ≡ true → spans table variable ≡ true → code < length (slice_index_or trees variable [])
-    → is_named (named_by trees table) (set name variable code) ≡ true
-moved-named trees table name variable code sound named variables_of inside =
+pub moved-named : (trees : List Tree) (table : List Dimension) (name : Name) (variable code : ℕ) → IsTable (length trees) table → is_named (named_by trees table) name ≡ true → is_code trees table variable code ≡ true → is_named (named_by trees table) (set name variable code) ≡ true
+moved-named trees table name variable code sound named fits =
     (cells_by_code trees table (set name variable code) sound (length-set name variable code ∙ name-long trees table name named)).1 (λ one below. each one below (one == variable) refl)
   where
     long : length name ≡ length trees
@@ -47,16 +49,39 @@ moved-named trees table name variable code sound named variables_of inside =
     each : (one : ℕ) → one < length trees → (b : Bool) → (one == variable) ≡ b → is_code trees table one (get_or (set name variable code) one 0) ≡ true
     each one below true is =
         let same : one ≡ variable = (Decides-eqb one variable).0 is in
-        let known : variable < length trees = known-below (length trees) table variable sound.known variables_of in
-        let read : get_or (set name variable code) variable 0 ≡ code = get_or-set_same name variable code 0 (omega (arith, known, long)) in
-        let fits : nat_lt code (length (slice_index_or trees variable [])) ≡ true = grind (arith, nat_tests, inside) in
-        subst (λ v. is_code trees table v (get_or (set name variable code) v 0) ≡ true) (sym same)
-        (ap (λ c. is_code trees table variable c) read ∙ ap (λ b. if b then nat_lt code (length (slice_index_or trees variable [])) else code == 0) variables_of ∙ fits)
+        let read : get_or (set name variable code) variable 0 ≡ code = get_or-set_same name variable code 0 (omega (arith, same, below, long)) in
+        subst (λ v. is_code trees table v (get_or (set name variable code) v 0) ≡ true) (sym same) (ap (λ c. is_code trees table variable c) read ∙ fits)
     each one below false is =
         let apart : one ≢ variable = λ same. let met : (one == variable) ≡ true = (Decides-eqb one variable).1 same in cc in
         ap (λ c. is_code trees table one c) (get_or-set_other name variable one code 0 apart) ∙ named-codes trees table name named one below
 
-any-table : (trees : List Tree) (tables : List (List ℕ)) (name other : Name) → ((table : List ℕ) → IsTable (length trees) table → is_named (named_by trees table) name ≡ true → is_named (named_by trees table) other ≡ true)
+-- a table that has a code has also the code right above it
+pub parent-fits : (trees : List Tree) (table : List Dimension) (variable code above : ℕ) → IsCodeTree (slice_index_or trees variable []) → parent_at (slice_index_or trees variable []) code ≡ Some above → is_code trees table variable code ≡ true → is_code trees table variable above ≡ true
+parent-fits trees table variable code above good up fits = by (dimension_of table variable) refl fits
+  where
+    both : (a b : Bool) → (a && b) ≡ true → (a ≡ true) × (b ≡ true)
+    both true b h = (refl, h)
+    both false b h = cc
+
+    none-some : (found : Option ℕ) → found ≡ None → found ≡ Some above → ⊥
+    none-some None e g = absurd cc
+    none-some (Some x) e g = absurd cc
+
+    by : (found : Option Dimension) → dimension_of table variable ≡ found → option_map_or (λ d. has_code (cut_tree trees d) code) found (code == 0) ≡ true → option_map_or (λ d. has_code (cut_tree trees d) above) found (above == 0) ≡ true
+    by None at h =
+        let top : code ≡ 0 = (Decides-eqb code 0).0 h in
+        absurd (none-some (parent_at (slice_index_or trees variable []) code) (ap (parent_at (slice_index_or trees variable [])) top ∙ good.total) up)
+    by (Some d) at h =
+        let same = dimension-is table variable d at in
+        let tree : IsCodeTree (cut_tree trees d).tree = subst (λ v. IsCodeTree (slice_index_or trees v [])) (sym same) good in
+        let parent : parent_at (cut_tree trees d).tree code ≡ Some above = subst (λ v. parent_at (slice_index_or trees v []) code ≡ Some above) (sym same) up in
+        let parts = both (nat_lt code (length (cut_tree trees d).tree)) (is_within (cut_tree trees d) code) h in
+        let less = parent_is_earlier (cut_tree trees d).tree tree code above parent in
+        let first : nat_lt above (length (cut_tree trees d).tree) ≡ true = let lower = parts.0 in grind (arith, nat_tests, less, lower) in
+        let second = cut_parent_within (cut_tree trees d) tree code above parent parts.1 in
+        rw (first, second) refl
+
+any-table : (trees : List Tree) (tables : List (List Dimension)) (name other : Name) → ((table : List Dimension) → IsTable (length trees) table → is_named (named_by trees table) name ≡ true → is_named (named_by trees table) other ≡ true)
     → All (IsTable (length trees)) tables → is_named (flat_map (named_by trees) tables) name ≡ true → is_named (flat_map (named_by trees) tables) other ≡ true
 any-table trees [] name other each all h = cc
 any-table trees (table ∷ tables) name other each all h =
@@ -91,23 +116,23 @@ cmp-same (x ∷ xs) =
     let same : (x == x) ≡ true = grind (arith, nat_tests) in
     rw (less, same) (cmp-same xs)
 
-codes-greater : (name : Name) (variable code : ℕ) → variable < length name → get_or name variable 0 < code → (table : List ℕ) → spans table variable ≡ true → slice_cmp nat_cmp (codes_at (set name variable code) table) (codes_at name table) ≡ Greater
+codes-greater : (name : Name) (variable code : ℕ) → variable < length name → get_or name variable 0 < code → (table : List Dimension) → spans table variable ≡ true → slice_cmp nat_cmp (codes_at (set name variable code) table) (codes_at name table) ≡ Greater
 codes-greater name variable code known above [] h = cc
-codes-greater name variable code known above (one ∷ table) h = by (one == variable) refl h (λ more. codes-greater name variable code known above table more)
+codes-greater name variable code known above (one ∷ table) h = by (one.variable == variable) refl h (λ more. codes-greater name variable code known above table more)
   where
-    by : (b : Bool) → (one == variable) ≡ b → (b || spans table variable) ≡ true → (spans table variable ≡ true → slice_cmp nat_cmp (codes_at (set name variable code) table) (codes_at name table) ≡ Greater) → ordering_then (nat_cmp (get_or (set name variable code) one 0) (get_or name one 0)) (slice_cmp nat_cmp (codes_at (set name variable code) table) (codes_at name table)) ≡ Greater
+    by : (b : Bool) → (one.variable == variable) ≡ b → (b || spans table variable) ≡ true → (spans table variable ≡ true → slice_cmp nat_cmp (codes_at (set name variable code) table) (codes_at name table) ≡ Greater) → ordering_then (nat_cmp (get_or (set name variable code) one.variable 0) (get_or name one.variable 0)) (slice_cmp nat_cmp (codes_at (set name variable code) table) (codes_at name table)) ≡ Greater
     by true is h rest =
-        let same : one ≡ variable = (Decides-eqb one variable).0 is in
-        let read : get_or (set name variable code) one 0 ≡ code = ap (λ v. get_or (set name variable code) v 0) same ∙ get_or-set_same name variable code 0 known in
-        let other : get_or name one 0 ≡ get_or name variable 0 = ap (λ v. get_or name v 0) same in
+        let same : one.variable ≡ variable = (Decides-eqb one.variable variable).0 is in
+        let read : get_or (set name variable code) one.variable 0 ≡ code = ap (λ v. get_or (set name variable code) v 0) same ∙ get_or-set_same name variable code 0 known in
+        let other : get_or name one.variable 0 ≡ get_or name variable 0 = ap (λ v. get_or name v 0) same in
         let less : nat_lt code (get_or name variable 0) ≡ false = grind (arith, nat_tests, above) in
         let apart : (code == get_or name variable 0) ≡ false = grind (arith, nat_tests, above) in
         rw (read, other, less, apart) refl
     by false is h rest =
-        let apart : one ≢ variable = λ same. let met : (one == variable) ≡ true = (Decides-eqb one variable).1 same in cc in
-        let read = get_or-set_other name variable one code 0 apart in
-        let less : nat_lt (get_or name one 0) (get_or name one 0) ≡ false = grind (arith, nat_tests) in
-        let same : (get_or name one 0 == get_or name one 0) ≡ true = grind (arith, nat_tests) in
+        let apart : one.variable ≢ variable = λ same. let met : (one.variable == variable) ≡ true = (Decides-eqb one.variable variable).1 same in cc in
+        let read = get_or-set_other name variable one.variable code 0 apart in
+        let less : nat_lt (get_or name one.variable 0) (get_or name one.variable 0) ≡ false = grind (arith, nat_tests) in
+        let same : (get_or name one.variable 0 == get_or name one.variable 0) ≡ true = grind (arith, nat_tests) in
         rw (read, less, same) (rest h)
 
 all-less : (r p : List ℕ) (ps : List (List ℕ)) → AllByRecursion (λ y. slice_cmp nat_cmp r y ≡ Less) ps → is_named ps p ≡ true → slice_cmp nat_cmp r p ≡ Less
@@ -175,10 +200,10 @@ pub record HasChild (book : BookView) (t cell : ℕ) (name : Name) (variable cod
 pub own-number : (book : BookView) (t cell : ℕ) (name : Name) → IsOwn book t cell name → number_of book name ≡ Some cell
 own-number book t cell name own = found-where (cells book) cell name (once-cells book) own.at
 
-pub own-of : (book : BookView) (t cell : ℕ) (table : List ℕ) (name : Name) → slice_get book.tables t ≡ Some table → IsOwn book t cell name → is_named (named_by book.trees table) name ≡ true
+pub own-of : (book : BookView) (t cell : ℕ) (table : List Dimension) (name : Name) → slice_get book.tables t ≡ Some table → IsOwn book t cell name → is_named (named_by book.trees table) name ≡ true
 own-of book t cell table name at own = own-named book t cell table name at own.at own.late own.early
 
-unmapped : (variables : ℕ) (table : List ℕ) (found : List (List ℕ)) (name : Name) → is_named (map (name_of variables table) found) name ≡ true → (place : List ℕ) × (is_named found place ≡ true) × (name ≡ name_of variables table place)
+unmapped : (variables : ℕ) (table : List Dimension) (found : List (List ℕ)) (name : Name) → is_named (map (name_of variables table) found) name ≡ true → (place : List ℕ) × (is_named found place ≡ true) × (name ≡ name_of variables table place)
 unmapped variables table [] name h = cc
 unmapped variables table (place ∷ found) name h = by (bytes_eq name (name_of variables table place)) refl h (λ more. unmapped variables table found name more)
   where
@@ -191,7 +216,7 @@ unmapped variables table (place ∷ found) name h = by (bytes_eq name (name_of v
     by true is h rest = let same : bytes_eq place place ≡ true = (bytes_eq-Decides place place).1 refl in (place, rw same refl, (bytes_eq-Decides name (name_of variables table place)).0 is)
     by false is h rest = let more = rest h in (more.0, rw more.1 (either (bytes_eq more.0 place)), more.2)
 
-mapped : (variables : ℕ) (table : List ℕ) (found : List (List ℕ)) (place : List ℕ) → is_named found place ≡ true → is_named (map (name_of variables table) found) (name_of variables table place) ≡ true
+mapped : (variables : ℕ) (table : List Dimension) (found : List (List ℕ)) (place : List ℕ) → is_named found place ≡ true → is_named (map (name_of variables table) found) (name_of variables table place) ≡ true
 mapped variables table [] place h = cc
 mapped variables table (other ∷ found) place h = by (bytes_eq place other) refl h (λ more. mapped variables table found place more)
   where
@@ -204,7 +229,7 @@ mapped variables table (other ∷ found) place h = by (bytes_eq place other) ref
     by true is h rest = let same : bytes_eq (name_of variables table place) (name_of variables table other) ≡ true = (bytes_eq-Decides _ _).1 (ap (name_of variables table) ((bytes_eq-Decides place other).0 is)) in rw same refl
     by false is h rest = let more = rest h in rw more (either (bytes_eq (name_of variables table place) (name_of variables table other)))
 
-module _ (book : BookView) (t cell : ℕ) (table : List ℕ) (name : Name) (variable code : ℕ) (is : IsBook book) (at : slice_get book.tables t ≡ Some table) (own : IsOwn book t cell name) (variables_of : spans table variable ≡ true) (up : parent_at (slice_index_or book.trees variable []) code ≡ Some (slice_index name variable)) where
+module _ (book : BookView) (t cell : ℕ) (table : List Dimension) (name : Name) (variable code : ℕ) (is : IsBook book) (at : slice_get book.tables t ≡ Some table) (own : IsOwn book t cell name) (spanned : spans table variable ≡ true) (fits : is_code book.trees table variable code ≡ true) (up : parent_at (slice_index_or book.trees variable []) code ≡ Some (slice_index name variable)) where
   trees : List Tree
   trees = book.trees
 
@@ -218,7 +243,7 @@ module _ (book : BookView) (t cell : ℕ) (table : List ℕ) (name : Name) (vari
   sound = subst (IsTable (length book.trees)) (get_or_from_slice_get book.tables t table [] at) (is.tables t [] (slice_get_within book.tables t table at))
 
   known : variable < length book.trees
-  known = known-below (length book.trees) table variable sound.known variables_of
+  known = known-below (length book.trees) table variable sound.known spanned
 
   good : IsCodeTree (slice_index_or book.trees variable [])
   good = is.trees variable [] known
@@ -236,25 +261,17 @@ module _ (book : BookView) (t cell : ℕ) (table : List ℕ) (name : Name) (vari
   long = name-long book.trees table name named
 
   other-named : is_named (named_by book.trees table) (set name variable code) ≡ true
-  other-named = moved-named book.trees table name variable code sound named variables_of inside
+  other-named = moved-named book.trees table name variable code sound named fits
 
   -- a table that has the other one has this one
-  back : (one : List ℕ) → IsTable (length book.trees) one → is_named (named_by book.trees one) (set name variable code) ≡ true → is_named (named_by book.trees one) name ≡ true
+  back : (one : List Dimension) → IsTable (length book.trees) one → is_named (named_by book.trees one) (set name variable code) ≡ true → is_named (named_by book.trees one) name ≡ true
   back one good_one has =
       subst (λ n. is_named (named_by book.trees one) n ≡ true) (set-back name variable code)
-      (moved-named book.trees one (set name variable code) variable (get_or name variable 0) good_one has (spans-one (spans one variable) refl) (omega (arith, above, inside)))
+      (moved-named book.trees one (set name variable code) variable (get_or name variable 0) good_one has
+      (parent-fits book.trees one variable code (get_or name variable 0) good up (ap (λ c. is_code book.trees one variable c) (sym read) ∙ named-codes book.trees one (set name variable code) has variable known)))
     where
       read : get_or (set name variable code) variable 0 ≡ code
       read = get_or-set_same name variable code 0 (omega (arith, known, long))
-
-      spans-one : (b : Bool) → spans one variable ≡ b → spans one variable ≡ true
-      spans-one true h = h
-      spans-one false h =
-          let none : (if false then nat_lt code (length (slice_index_or book.trees variable [])) else code == 0) ≡ true =
-          ap (λ b. if b then nat_lt code (length (slice_index_or book.trees variable [])) else code == 0) (sym h) ∙ ap (λ c. is_code book.trees one variable c) (sym read) ∙ named-codes book.trees one (set name variable code) has variable known
-          in
-          let zero_code : code ≡ 0 = (Decides-eqb code 0).0 none in
-          absurd (omega (arith, above, zero_code))
 
   before : List Name
   before = cells_of book.trees (take t book.tables)
@@ -271,12 +288,12 @@ module _ (book : BookView) (t cell : ℕ) (table : List ℕ) (name : Name) (vari
   fresh false h = refl
 
   place-in : is_named (places (trees_of book.trees table)) (codes_at name table) ≡ true
-  place-in = places_are_lexicographic.all (trees_of book.trees table) (codes_at name table) ∙ place-good book.trees name table (λ one h. spanned-code book.trees table name sound named one h)
+  place-in = places_are_lexicographic.all (trees_of book.trees table) (codes_at name table) ∙ place-good book.trees name table sound.once (spanned-code book.trees table name sound named)
 
   split : IsSplit (places (trees_of book.trees table)) (codes_at name table) (codes_at (set name variable code) table)
   split =
       split-at (places (trees_of book.trees table)) (codes_at name table) (codes_at (set name variable code) table) (places_are_lexicographic.ascending (trees_of book.trees table)) place-in
-      (codes-greater name variable code (omega (arith, known, long)) above table variables_of)
+      (codes-greater name variable code (omega (arith, known, long)) above table spanned)
 
   f : List ℕ → Name
   f = name_of (length book.trees) table

@@ -1,7 +1,8 @@
 -- What cells have, passed on step by step.
-use Rattle.std.proofs.Common.{◌≡◌, ◌≢◌, ℕ, zero, suc, ◌+◌, ◌-◌, ◌<◌, ◌≤◌, ◌==◌, ◌&&◌, nat_le, Bool, true, false, List, [], ◌∷◌, ◌++◌, length, take, slice_get, slice_set, if◌then◌else◌, Option, None, Some, option_map, refl, ap, sym, ◌∙◌, subst, arith, add-one}
+use Rattle.std.proofs.Common.{◌≡◌, ◌≢◌, ℕ, zero, suc, ◌+◌, ◌-◌, ◌<◌, ◌≤◌, ◌==◌, ◌&&◌, nat_le, Bool, true, false, List, [], ◌∷◌, ◌++◌, length, slice_get, slice_set, if◌then◌else◌, Option, None, Some, option_map, refl, ap, sym, ◌∙◌, subst, arith, add-one}
 use Rattle.std.specs.Option.{option_map_or}
 use Rattle.std.proofs.lemmas.Bool.Decides.{nat_tests, Decides-eqb}
+use Rattle.sdc_base.specs.declared.dimension.Dimension.{Dimension}
 use Rattle.sdc_base.specs.declared.rows.Row.{Row}
 use Rattle.linked_tables.specs.declared.mark.Mark.{Mark}
 use Rattle.linked_tables.specs.BookViews.{BookView}
@@ -107,16 +108,16 @@ cells-next a b c variable first past n one two =
     (passed-then a b c (after_cells a variable first past n) (after_cell a variable first (past - (n + 1))) one turned)
 
 -- one variable more
-variables-more : (book : BookView) (first past : ℕ) (done : List ℕ) (variable : ℕ) (given : ℕ → List Row) (cell : ℕ)
-    → after_cells book variable first past (past - first) (after_variables book first past done given) cell ≡ after_variables book first past (done ++ variable ∷ []) given cell
-variables-more book first past [] variable given cell = refl
-variables-more book first past (one ∷ done) variable given cell = variables-more book first past done variable (after_cells book one first past (past - first) given) cell
+variables-more : (book : BookView) (first past : ℕ) (done : List Dimension) (dimension : Dimension) (given : ℕ → List Row) (cell : ℕ)
+    → after_cells book dimension.variable first past (past - first) (after_variables book first past done given) cell ≡ after_variables book first past (done ++ dimension ∷ []) given cell
+variables-more book first past [] dimension given cell = refl
+variables-more book first past (one ∷ done) dimension given cell = variables-more book first past done dimension (after_cells book one.variable first past (past - first) given) cell
 
-pub variables-next : (a b c : BookView) (first past : ℕ) (done : List ℕ) (variable : ℕ) → PassedRecords a b (after_variables a first past done) → PassedRecords b c (after_cells b variable first past (past - first)) → PassedRecords a c (after_variables a first past (done ++ variable ∷ []))
-variables-next a b c first past done variable one two =
-    let turned : PassedRecords b c (after_cells a variable first past (past - first)) = subst (λ (x : BookView). PassedRecords b c (after_cells x variable first past (past - first))) one.frame two in
-    passed-as a c (λ given. after_cells a variable first past (past - first) (after_variables a first past done given)) (after_variables a first past (done ++ variable ∷ [])) (λ given cell. variables-more a first past done variable given cell)
-    (passed-then a b c (after_variables a first past done) (after_cells a variable first past (past - first)) one turned)
+pub variables-next : (a b c : BookView) (first past : ℕ) (done : List Dimension) (dimension : Dimension) → PassedRecords a b (after_variables a first past done) → PassedRecords b c (after_cells b dimension.variable first past (past - first)) → PassedRecords a c (after_variables a first past (done ++ dimension ∷ []))
+variables-next a b c first past done dimension one two =
+    let turned : PassedRecords b c (after_cells a dimension.variable first past (past - first)) = subst (λ (x : BookView). PassedRecords b c (after_cells x dimension.variable first past (past - first))) one.frame two in
+    passed-as a c (λ given. after_cells a dimension.variable first past (past - first) (after_variables a first past done given)) (after_variables a first past (done ++ dimension ∷ [])) (λ given cell. variables-more a first past done dimension given cell)
+    (passed-then a b c (after_variables a first past done) (after_cells a dimension.variable first past (past - first)) one turned)
 
 -- ---- marks that are there
 

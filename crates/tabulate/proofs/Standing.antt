@@ -1,5 +1,5 @@
 -- At which places of a table a cell stands.
-use Rattle.std.proofs.Common.{◌≡◌, ℕ, zero, suc, ◌+◌, ◌<◌, ◌≤◌, ◌==◌, ◌&&◌, ◌||◌, nat_le, nat_lt, Bool, true, false, cond, List, [], ◌∷◌, ◌++◌, length, take, drop, get_or, slice_get, slice_index_or, bytes_eq, if◌then◌else◌, Option, None, Some, option_map, is_some, refl, ap, sym, ◌∙◌, subst, arith, add-one}
+use Rattle.std.proofs.Common.{◌≡◌, ℕ, zero, suc, ◌+◌, ◌<◌, ◌≤◌, ◌==◌, ◌&&◌, ◌||◌, nat_le, Bool, true, false, cond, List, [], ◌∷◌, ◌++◌, length, take, drop, get_or, slice_get, bytes_eq, if◌then◌else◌, Option, None, Some, option_map, is_some, refl, ap, sym, ◌∙◌, subst, arith, add-one}
 use Rattle.std.specs.List.{IsDistinct, flat_map}
 use Rattle.std.specs.Option.{option_map_or, option_and_then}
 use Rattle.std.proofs.lemmas.Bool.Decides.{nat_tests, Decides-eqb}
@@ -8,16 +8,19 @@ use Rattle.std.proofs.lemmas.Slice.Eq.{bytes_eq-Decides}
 use Rattle.sdc_base.specs.Trees.{Tree}
 use Rattle.sdc_base.specs.Records.{Name}
 use Rattle.sdc_base.specs.Places.{first_place}
-use Rattle.sdc_base.specs.Cells.{cells_of, is_named, named_by, name_of, trees_of, spans}
+use Rattle.sdc_base.specs.Cells.{cut_tree, cells_of, is_named, named_by, name_of, trees_of}
 use Rattle.sdc_base.specs.CellOrder.{is_place_in}
+use Rattle.sdc_base.specs.CutTrees.{has_code}
+use Rattle.sdc_base.specs.declared.dimension.Dimension.{Dimension}
 use Rattle.sdc_base.proofs.FirstNames.{all_named, names_are_first}
 use Rattle.sdc_base.proofs.PlaceLists.{name_length}
 use Rattle.linked_tables.specs.BookViews.{BookView}
+use Rattle.linked_tables.specs.Laws.{dimension_of}
 use Rattle.linked_tables.specs.BookCells.{IsTable, cells, cell_at, first_own, is_in, name_at, name_in_table, number_of}
 use Rattle.linked_tables.proofs.CellLists.{cells-stay}
 use Rattle.linked_tables.proofs.TableSteps.{cells-next}
 use Rattle.linked_tables.proofs.Finding.{cell-found, cell-named, place-named}
-use Rattle.linked_tables.proofs.Sharing.{codes_at, code-back, known-below, name-codes, name-long, named-codes, place-good, place-of-name, same-items}
+use Rattle.linked_tables.proofs.Sharing.{codes_at, code-back, dimension-spans, known-below, name-codes, name-long, named-codes, place-good, place-of-name, same-items}
 use Rattle.tabulate.specs.RecordsByPlace.{is_at}
 use Rattle.linked_tables.proofs.Guessing.{found-where}
 
@@ -60,7 +63,7 @@ front-cells book t =
     (stay.0, ap (cells_of book.trees) (sym (take-append-drop t book.tables)) ∙ stay.1)
 
 -- a cell that a table is the first to name is one of the table's
-pub own-named : (book : BookView) (t cell : ℕ) (table : List ℕ) (name : Name) → slice_get book.tables t ≡ Some table → slice_get (cells book) cell ≡ Some name → first_own book t ≤ cell → cell < first_own book (t + 1) → is_named (named_by book.trees table) name ≡ true
+pub own-named : (book : BookView) (t cell : ℕ) (table : List Dimension) (name : Name) → slice_get book.tables t ≡ Some table → slice_get (cells book) cell ≡ Some name → first_own book t ≤ cell → cell < first_own book (t + 1) → is_named (named_by book.trees table) name ≡ true
 own-named book t cell table name at is late early =
     let front = front-cells book (t + 1) in
     let here : slice_get (cells_of book.trees (take (t + 1) book.tables)) cell ≡ Some name =
@@ -82,10 +85,10 @@ own-named book t cell table name at is late early =
         absurd (omega (arith, below, late))
     by false before h = h
 
-take-here : (tables : List (List ℕ)) (t : ℕ) (table : List ℕ) → slice_get tables t ≡ Some table → slice_get (take (t + 1) tables) t ≡ Some table
+take-here : (tables : List (List Dimension)) (t : ℕ) (table : List Dimension) → slice_get tables t ≡ Some table → slice_get (take (t + 1) tables) t ≡ Some table
 take-here tables t table at = ap (λ n. slice_get (take n tables) t) (add-one t) ∙ by tables t at
   where
-    by : (tables : List (List ℕ)) (t : ℕ) → slice_get tables t ≡ Some table → slice_get (take (suc t) tables) t ≡ Some table
+    by : (tables : List (List Dimension)) (t : ℕ) → slice_get tables t ≡ Some table → slice_get (take (suc t) tables) t ≡ Some table
     by [] t at = cc
     by (first ∷ tables) zero at = at
     by (first ∷ tables) (suc t) at = by tables t at
@@ -94,7 +97,7 @@ take-here tables t table at = ap (λ n. slice_get (take n tables) t) (add-one t)
 pub cell-early : (book : BookView) (t found : ℕ) (place : List ℕ) → cell_at book t place ≡ Some found → found < first_own book (t + 1)
 cell-early book t found place is = by_table (slice_get book.tables t) refl is
   where
-    inside : (table : List ℕ) → slice_get book.tables t ≡ Some table → (b : Bool) → is_in book table place ≡ b → (if b then number_of book (name_in_table book table place) else None) ≡ Some found → found < first_own book (t + 1)
+    inside : (table : List Dimension) → slice_get book.tables t ≡ Some table → (b : Bool) → is_in book table place ≡ b → (if b then number_of book (name_in_table book table place) else None) ≡ Some found → found < first_own book (t + 1)
     inside table at true good is =
         let front = front-cells book (t + 1) in
         let taken : slice_get (take (t + 1) book.tables) t ≡ Some table = take-here book.tables t table at in
@@ -102,35 +105,37 @@ cell-early book t found place is = by_table (slice_get book.tables t) refl is
         found-early (cells_of book.trees (take (t + 1) book.tables)) front.0 (name_in_table book table place) found among (ap (first_place (bytes_eq (name_in_table book table place))) (sym front.1) ∙ is)
     inside table at false good is = cc
 
-    by_table : (found_table : Option (List ℕ)) → slice_get book.tables t ≡ found_table → option_and_then (λ table. if is_in book table place then number_of book (name_in_table book table place) else None) found_table ≡ Some found → found < first_own book (t + 1)
+    by_table : (found_table : Option (List Dimension)) → slice_get book.tables t ≡ found_table → option_and_then (λ table. if is_in book table place then number_of book (name_in_table book table place) else None) found_table ≡ Some found → found < first_own book (t + 1)
     by_table None at is = cc
     by_table (Some table) at is = inside table at (is_in book table place) refl is
 
 -- ---- the one place of a cell in a table
 
-pub spanned-code : (trees : List Tree) (table : List ℕ) (name : Name) → IsTable (length trees) table → is_named (named_by trees table) name ≡ true → (variable : ℕ) → spans table variable ≡ true → nat_lt (get_or name variable 0) (length (slice_index_or trees variable [])) ≡ true
-spanned-code trees table name sound h variable variables_of =
-    ap (λ b. if b then nat_lt (get_or name variable 0) (length (slice_index_or trees variable [])) else get_or name variable 0 == 0) (sym variables_of)
-    ∙ named-codes trees table name h variable (known-below (length trees) table variable sound.known variables_of)
+pub spanned-code : (trees : List Tree) (table : List Dimension) (name : Name) → IsTable (length trees) table → is_named (named_by trees table) name ≡ true → (variable : ℕ) (d : Dimension) → dimension_of table variable ≡ Some d → has_code (cut_tree trees d) (get_or name variable 0) ≡ true
+spanned-code trees table name sound h variable d spanned =
+    ap (λ (found : Option Dimension). option_map_or (λ one. has_code (cut_tree trees one) (get_or name variable 0)) found (get_or name variable 0 == 0)) (sym spanned)
+    ∙ named-codes trees table name h variable (known-below (length trees) table variable sound.known (sym (dimension-spans table variable) ∙ ap is_some spanned))
 
 -- a name of a table is that of its place, which is one of the table's
-pub name-back : (trees : List Tree) (table : List ℕ) (name : Name) → is_named (named_by trees table) name ≡ true → name_of (length trees) table (codes_at name table) ≡ name
+pub name-back : (trees : List Tree) (table : List Dimension) (name : Name) → is_named (named_by trees table) name ≡ true → name_of (length trees) table (codes_at name table) ≡ name
 name-back trees table name h =
     same-items (name_of (length trees) table (codes_at name table)) name (name_length table (codes_at name table) (length trees) ∙ sym (name-long trees table name h))
     (λ variable below. let under : variable < length trees = subst (λ n. variable < n) (name_length table (codes_at name table) (length trees)) below in
-    name-codes (length trees) table (codes_at name table) variable under ∙ code-back name table variable ∙ back variable (spans table variable) (named-codes trees table name h variable under))
+    name-codes (length trees) table (codes_at name table) variable under ∙ code-back name table variable
+    ∙ ap (λ b. if b then get_or name variable 0 else 0) (sym (dimension-spans table variable))
+    ∙ back variable (dimension_of table variable) (named-codes trees table name h variable under))
   where
-    back : (variable : ℕ) (b : Bool) → (if b then nat_lt (get_or name variable 0) (length (slice_index_or trees variable [])) else get_or name variable 0 == 0) ≡ true → (if b then get_or name variable 0 else 0) ≡ get_or name variable 0
-    back variable true good = refl
-    back variable false good = sym ((Decides-eqb (get_or name variable 0) 0).0 good)
+    back : (variable : ℕ) (found : Option Dimension) → option_map_or (λ d. has_code (cut_tree trees d) (get_or name variable 0)) found (get_or name variable 0 == 0) ≡ true → (if is_some found then get_or name variable 0 else 0) ≡ get_or name variable 0
+    back variable (Some d) good = refl
+    back variable None good = sym ((Decides-eqb (get_or name variable 0) 0).0 good)
 
 -- a cell of a table stands at exactly one place
-pub stands-once : (book : BookView) (t first cell : ℕ) (table : List ℕ) (name : Name) (place : List ℕ) → slice_get book.tables t ≡ Some table → IsTable (length book.trees) table → slice_get (cells book) cell ≡ Some name → first ≤ cell
+pub stands-once : (book : BookView) (t first cell : ℕ) (table : List Dimension) (name : Name) (place : List ℕ) → slice_get book.tables t ≡ Some table → IsTable (length book.trees) table → slice_get (cells book) cell ≡ Some name → first ≤ cell
     → is_named (named_by book.trees table) name ≡ true → is_at book t first place cell ≡ bytes_eq place (codes_at name table)
 stands-once book t first cell table name place at sound is late given = by (bytes_eq place (codes_at name table)) refl
   where
     good : is_place_in (trees_of book.trees table) (codes_at name table) ≡ true
-    good = place-good book.trees name table (λ variable h. spanned-code book.trees table name sound given variable h)
+    good = place-good book.trees name table sound.once (spanned-code book.trees table name sound given)
 
     here : cell_at book t (codes_at name table) ≡ Some cell
     here =

@@ -1,7 +1,11 @@
 -- What a book becomes where its cells are given records (own).
-use Rattle.std.specs.Prelude.{◌≡◌, ℕ, ◌+◌, ◌==◌, ◌&&◌, nat_le, Bool, false, List, [], ◌∷◌, ◌++◌, flat_map, map, replicate, slice_get, slice_index, if◌then◌else◌}
+use Rattle.std.specs.Prelude.{◌≡◌, ℕ, ◌+◌, ◌==◌, ◌&&◌, nat_le, Bool, false, List, [], ◌∷◌, ◌++◌, flat_map, map, replicate, slice_get, slice_index}
 use Rattle.std.specs.Option.{option_map_or}
+use Rattle.sdc_base.specs.Trees.{Tree}
+use Rattle.sdc_base.specs.CutTrees.{code_within}
+use Rattle.sdc_base.specs.Cells.{cut_tree}
 use Rattle.sdc_base.specs.Places.{count}
+use Rattle.sdc_base.specs.declared.dimension.Dimension.{Dimension}
 use Rattle.sdc_base.specs.declared.rows.Row.{Row}
 use Rattle.linked_tables.specs.BookViews.{BookView}
 use Rattle.linked_tables.specs.BookCells.{cell_at}
@@ -16,17 +20,22 @@ is_at book t first place cell =
 abbrev pub hits : BookView → ℕ → ℕ → List (List ℕ) → ℕ → ℕ
 hits book t first places cell = count (λ place. is_at book t first place cell) places
 
--- the variables that table t spans
-abbrev pub variables_of : BookView → ℕ → List ℕ
-variables_of book t = option_map_or (λ table. table) (slice_get book.tables t) []
+-- the variables that table t spans, each with its depth
+abbrev pub dimensions_of : BookView → ℕ → List Dimension
+dimensions_of book t = option_map_or (λ table. table) (slice_get book.tables t) []
 
--- the codes for these variables
-abbrev pub codes_for : List ℕ → List ℕ → List ℕ
-codes_for codes table = map (λ variable. slice_index codes variable) table
+-- the code of a table under which one of these codes stands: that for the variable, or the one above it on the table's
+-- last level
+abbrev pub code_in_table : List Tree → List ℕ → Dimension → ℕ
+code_in_table trees codes dimension = code_within (cut_tree trees dimension) (slice_index codes dimension.variable)
 
--- the place of table t that has the record's very codes, alone
+-- the codes of a table under which these codes stand
+abbrev pub codes_for : List Tree → List ℕ → List Dimension → List ℕ
+codes_for trees codes table = map (code_in_table trees codes) table
+
+-- the place of table t under which the record's codes stand, alone
 abbrev pub own_places : BookView → ℕ → Row → List (List ℕ)
-own_places book t row = codes_for row.codes (variables_of book t) ∷ []
+own_places book t row = codes_for book.trees row.codes (dimensions_of book t) ∷ []
 
 -- a record was given to each of table t's cells at these places, but for the first ones; all else stayed
 pub record GaveRecord (old new : BookView) (t first : ℕ) (row : Row) (places : List (List ℕ)) : Type 0 where

@@ -2,7 +2,7 @@
 use Rattle.std.specs.Prelude.{◌≡◌, ℕ, zero, suc, ◌+◌, ◌-◌, ◌==◌, ◌&&◌, nat_le, Bool, false, List, [], ◌∷◌, ◌++◌, slice_get, slice_set, slice_index, slice_index_or, if◌then◌else◌, Option}
 use Rattle.std.specs.Option.{option_map_or, option_and_then}
 use Rattle.sdc_base.specs.Trees.{parent_at}
-use Rattle.sdc_base.specs.Records.{Name}
+use Rattle.sdc_base.specs.declared.dimension.Dimension.{Dimension}
 use Rattle.sdc_base.specs.declared.rows.Row.{Row}
 use Rattle.linked_tables.specs.BookViews.{BookView}
 use Rattle.linked_tables.specs.BookCells.{cells, number_of}
@@ -30,11 +30,11 @@ after_cells book variable first past zero given = given
 after_cells book variable first past (suc n) given = after_cell book variable first (past - (n + 1))
     (after_cells book variable first past n given)
 
--- after all cells from the first one on, for one variable after another
-abbrev pub after_variables : BookView → ℕ → ℕ → List ℕ → (ℕ → List Row) → ℕ → List Row
+-- after all cells from the first one on, for one variable of a table after another
+abbrev pub after_variables : BookView → ℕ → ℕ → List Dimension → (ℕ → List Row) → ℕ → List Row
 after_variables book first past [] given = given
-after_variables book first past (variable ∷ variables) given = after_variables book first past variables
-    (after_cells book variable first past (past - first) given)
+after_variables book first past (dimension ∷ table) given = after_variables book first past table
+    (after_cells book dimension.variable first past (past - first) given)
 
 -- what cells have was passed on so; all else stayed
 pub record PassedRecords (old new : BookView) (after : (ℕ → List Row) → ℕ → List Row) : Type 0 where

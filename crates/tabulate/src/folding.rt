@@ -1,24 +1,24 @@
 ghost use Rattle.std.specs.Prelude.{◌≡◌, ◌-◌, ◌<◌, ◌==◌, ◌++◌, ℕ, List, Some, slice_set, length, if◌then◌else◌, IfSome};
 ghost use Rattle.sdc_base.specs.declared.rows.Row.{Row as Record};
 ghost use Rattle.tabulate.specs.MarkRecords.{HaveOneScale, MarksHoldRecords, HoldsRecords, settings_at, settings_of};
-ghost use Rattle.tabulate.specs.RecordsByPlace.{variables_of};
+ghost use Rattle.tabulate.specs.RecordsByPlace.{dimensions_of};
 ghost use Rattle.tabulate.specs.UpperCells.{PassedRecords, after_cells, after_variables, after_cell, upper_of};
 
 use crate::adding::{copy_of, join};
-use crate::reading::{code_at, variable_at, width_of};
+use crate::reading::{code_at, dimension_at, width_of};
 use linked_tables::{Book, Mark};
 use sdc_base::{Few, Place};
 
 /// Gives what the cells of table t's own were given to those above them, variable after variable.
 pub(crate) fn fold_table(book: &mut Book, t: u32, first: u32, past: u32)
     requires even { HaveOneScale book.old.marks }
-    ensures { PassedRecords book.old book.new (after_variables book.old first past (variables_of book.old t)) }
+    ensures { PassedRecords book.old book.new (after_variables book.old first past (dimensions_of book.old t)) }
 {
     'variables: for k in 0..width_of(book, t) {
-        let Some(variable) = variable_at(book, t, k) else {
+        let Some(dimension) = dimension_at(book, t, k) else {
             return;
         };
-        fold_variable(book, variable, first, past);
+        fold_variable(book, dimension.variable, first, past);
     }
 }
 

@@ -1,13 +1,14 @@
 ghost use Rattle.std.specs.Prelude.{◌≡◌, ◌∷◌, [], All, pos, ◌≤ℤ◌};
 ghost use Rattle.tabulate.specs.MarkRecords.{HaveScalesWithin};
-ghost use Rattle.tabulate.specs.RecordsByPlace.{GaveRecord, GaveRecords, codes_for, variables_of};
+ghost use Rattle.tabulate.specs.RecordsByPlace.{GaveRecord, GaveRecords, code_in_table, codes_for, dimensions_of};
 
 use crate::adding::add;
 use crate::reading::code_at;
 use linked_tables::Book;
-use sdc_base::{Few, Place, Row};
+use sdc_base::{Dimension, Dimensions, Few, Place, Row};
 
-/// Gives each record to the one cell of table t that has its very codes, but for cells before the first one.
+/// Gives each record to the one cell of table t under whose codes its own stand as deep as the table goes, but for cells
+/// before the first one.
 pub(crate) fn give_rows(book: &mut Book, t: u32, first: u32, rows: &[Row])
     requires from_zero { All (λ row. pos 0 ≤ℤ row.value) rows.now }
     requires scales_within { All (λ row. HaveScalesWithin row.weight book.old.marks) rows.now }
@@ -36,23 +37,30 @@ fn give_at(book: &mut Book, t: u32, first: u32, row: &Row, place: &[u32])
     }
 }
 
-// A record's place in table t: its codes for the variables of the table.
+// A record's place in table t: for each variable of the table its code, or the one above it on the table's last level.
 fn record_place(book: &Book, t: u32, row: &Row) -> Place
-    ensures { result ≡ codes_for row.now.codes (variables_of book.now t) }
+    ensures { result ≡ codes_for book.now.trees row.now.codes (dimensions_of book.now t) }
 {
     match book.spans(t) {
-        Some(table) => codes_at(table, row.codes.as_slice()),
+        Some(table) => codes_at(book, table, row.codes.as_slice()),
         None => Few::empty(),
     }
 }
 
-// The codes for these variables.
-fn codes_at(table: &Place, codes: &[u32]) -> Place
-    ensures { result ≡ codes_for codes.now table.now }
+// The codes of a table under which these codes stand.
+fn codes_at(book: &Book, table: &Dimensions, codes: &[u32]) -> Place
+    ensures { result ≡ codes_for book.now.trees codes.now table.now }
 {
     let mut place = Few::empty();
     'variables: for k in 0..table.len() {
-        place.insert(k, code_at(codes, table.as_slice()[k]));
+        place.insert(k, code_under(book, table.as_slice()[k], codes));
     }
     place
+}
+
+// The code of a table that spans a variable so under which one of these codes stands.
+fn code_under(book: &Book, dimension: Dimension, codes: &[u32]) -> u32
+    ensures { result ≡ code_in_table book.now.trees codes.now dimension }
+{
+    book.code_within(dimension, code_at(codes, dimension.variable))
 }

@@ -1,8 +1,8 @@
 ghost use Rattle.std.specs.Prelude.{◌≡◌, length, slice_get, slice_index};
-ghost use Rattle.tabulate.specs.RecordsByPlace.{variables_of};
+ghost use Rattle.tabulate.specs.RecordsByPlace.{dimensions_of};
 
 use linked_tables::Book;
-use sdc_base::Place;
+use sdc_base::{Dimension, Dimensions};
 
 /// The code for a variable, and 0 where there is none.
 pub(crate) fn code_at(codes: &[u32], variable: u32) -> u32
@@ -17,7 +17,7 @@ pub(crate) fn code_at(codes: &[u32], variable: u32) -> u32
 
 /// How many variables table t spans.
 pub(crate) fn width_of(book: &Book, t: u32) -> usize
-    ensures { result ≡ length (variables_of book.now t) }
+    ensures { result ≡ length (dimensions_of book.now t) }
 {
     match book.spans(t) {
         Some(table) => table.len(),
@@ -26,22 +26,22 @@ pub(crate) fn width_of(book: &Book, t: u32) -> usize
     }
 }
 
-/// The variable that stands at a place in table t.
-pub(crate) fn variable_at(book: &Book, t: u32, k: usize) -> Option<u32>
-    ensures { result ≡ slice_get (variables_of book.now t) k }
+/// The variable that stands at a place in table t, with its depth.
+pub(crate) fn dimension_at(book: &Book, t: u32, k: usize) -> Option<Dimension>
+    ensures { result ≡ slice_get (dimensions_of book.now t) k }
 {
     match book.spans(t) {
-        Some(table) => number_at(table, k),
+        Some(table) => item_at(table, k),
         None => None,
     }
 }
 
-// The number at a place of a short list.
-fn number_at(numbers: &Place, k: usize) -> Option<u32>
-    ensures { result ≡ slice_get numbers.now k }
+// The variable at a place of a table.
+fn item_at(table: &Dimensions, k: usize) -> Option<Dimension>
+    ensures { result ≡ slice_get table.now k }
 {
-    if k >= numbers.len() {
+    if k >= table.len() {
         return None;
     }
-    Some(numbers.as_slice()[k])
+    Some(table.as_slice()[k])
 }

@@ -2,9 +2,9 @@ ghost use Rattle.std.specs.Prelude.{◌≡◌, ◌≤◌, ◌^◌, ◌<◌, true
 ghost use Rattle.tabulate.specs.TabulatedMarks.{CanBeTabulated, HasNone, IsRow};
 
 use attackers::soles;
-use fixture_records::{pairs, places, rows, thirteen};
+use fixture_records::{Record, pairs, places, regions, rows, tables, thirteen, two_codes};
 use linked_tables::{Book, Mark};
-use sdc_base::{Place, Row};
+use sdc_base::{Dimension, Place, Row};
 use std::alloc::Global;
 use std::rt::HostRuntime;
 use std::test::Fail;
@@ -120,5 +120,45 @@ fn lone_records_make_up_inner_cells(rt: HostRuntime) -> Result<(), Fail> {
     let found = soles_of_thirteen(alloc)?;
     let lone = alone(alloc, &found)?;
     assert_eq!(rt; lone.as_slice(), LONE_RECORDS.as_slice());
+    Ok(())
+}
+
+// The upper regions, N and S.
+const UPPER: Dimension = Dimension {
+    variable: 0,
+    depth: 1,
+};
+
+// Records of N1, N2 and S1 by two codes.
+const REGIONAL: [Record<'static>; 4] = [
+    (&[2, 1], 10, 1),
+    (&[3, 2], 20, 1),
+    (&[5, 1], 30, 1),
+    (&[3, 2], 40, 1),
+];
+
+// The soles of these records in a table of the upper regions by two codes.
+fn soles_of_upper_regions(alloc: Global) -> Result<Vec<Option<u32>>, Fail> {
+    let mut trees = Vec::new(alloc);
+    trees.push(regions(alloc)?)?;
+    trees.push(two_codes(alloc)?)?;
+    let spanned = tables(alloc, &[&[UPPER, Dimension::whole(1)]])?;
+    let mut book = Book::with_depths(alloc, trees, spanned)?;
+    let records = rows(alloc, &REGIONAL)?;
+    soles_of(alloc, &mut book, &records)
+}
+
+// The first record alone makes up N by 1, and the third S and S by 1.
+const LONE_IN_UPPER_REGIONS: [(usize, u32); 3] = [(4, 0), (6, 2), (7, 2)];
+
+#[test]
+fn lone_records_of_deeper_codes_make_up_cells_of_a_shallow_table(
+    rt: HostRuntime,
+) -> Result<(), Fail> {
+    let alloc = rt.alloc();
+    let found = soles_of_upper_regions(alloc)?;
+    assert_eq!(rt; found.len(), 9);
+    let lone = alone(alloc, &found)?;
+    assert_eq!(rt; lone.as_slice(), LONE_IN_UPPER_REGIONS.as_slice());
     Ok(())
 }

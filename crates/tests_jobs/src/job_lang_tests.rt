@@ -1,9 +1,10 @@
 use JobWhy::{
-    BadLine, BadValue, Missing, NoSuchTable, NoSuchVariable, NoWeight, NotNumeric, NotSpanning,
-    OtherResponse, SameName, TooMany, Twice, UnknownCommand,
+    BadLine, BadValue, Missing, NoSuchTable, NoSuchVariable, NoWeight, NotInTable, NotNumeric,
+    NotSpanning, OtherResponse, SameName, TooMany, Twice, UnknownCommand,
 };
 use job_lang::{Command, JobError, JobWhy, OutputLine, bind, metadata_fit, read_job};
 use rda_meta::read_meta;
+use sdc_base::Dimension;
 use std::alloc::Global;
 use std::rt::HostRuntime;
 use std::test::Fail;
@@ -24,7 +25,7 @@ fn answer(alloc: Global, text: &[u8]) -> Option<Answer> {
 }
 
 // Jobs, and what reading each gives.
-const WHOLE_JOBS: [(&str, Answer); 16] = [
+const WHOLE_JOBS: [(&str, Answer); 20] = [
     // in any order of the lines, with CR and LF, without the last end
     (
         "<CERTIFICATE> \"c\"\r\n<WRITETABLE>(1,\"t\")\r\n<SUPPRESS>mod( )\r\n<SAFETYRULE>p(10)\r\n<SPECIFYTABLE>\"A\"|\"V\"\r\n<OPENMETADATA>\"m\"\r\n<OPENMICRODATA>\"d\"",
@@ -90,6 +91,23 @@ const WHOLE_JOBS: [(&str, Answer); 16] = [
     (
         "<SPECIFYTABLE>\"A\"|\"V\"\n<SPECIFYTABLE>\"A\"|\"V\"\n<SPECIFYTABLE>\"A\"|\"V\"\n<SPECIFYTABLE>\"A\"|\"V\"\n<SPECIFYTABLE>\"A\"|\"V\"\n<SPECIFYTABLE>\"A\"|\"V\"\n<SPECIFYTABLE>\"A\"|\"V\"\n<SPECIFYTABLE>\"A\"|\"V\"\n<SPECIFYTABLE>\"A\"|\"V\"\n",
         Err((9, TooMany)),
+    ),
+    // depths: their range, one more for the same table and variable, and a variable of another table
+    (
+        "<DEPTH> (1,\"A\",1)\n<depth>( 2 , \"A\" , 09 )\n<DEPTH> (1,\"B\",10)",
+        Err((3, BadValue)),
+    ),
+    (
+        "<DEPTH> (1,\"A\",1)\n<DEPTH> (1,\"a\",1)\n<DEPTH> (01,\"A\",2)",
+        Err((3, Twice)),
+    ),
+    (
+        "<SPECIFYTABLE> \"A\"|\"V\"\n<SPECIFYTABLE> \"B\"|\"V\"\n<DEPTH> (1,\"B\",1)\n<DEPTH> (0,\"A\",1)",
+        Err((4, NoSuchTable)),
+    ),
+    (
+        "<SPECIFYTABLE> \"A\"|\"V\"\n<SPECIFYTABLE> \"B\"|\"V\"\n<DEPTH> (2,\"B\",1)\n<DEPTH> (1,\"B\",1)",
+        Err((4, NotInTable)),
     ),
 ];
 
@@ -465,6 +483,42 @@ fn jobs_bound_to_metadata(rt: HostRuntime) {
         assert_eq!(rt;
             places(rt.alloc(), job.as_bytes(), meta.as_bytes()),
             Some(*expected)
+        );
+    }
+}
+
+// The last variable of the last table of a bound job, with its depth; nothing where one isn't read or memory wants.
+fn last_dimension(alloc: Global, job: &[u8], meta: &[u8]) -> Option<Dimension> {
+    metadata_fit();
+    if job.len() > 10000 || meta.len() > 10000 {
+        return None;
+    }
+    let job = read_job(alloc, job).ok()?;
+    let meta = read_meta(alloc, meta).ok()?;
+    let bound = bind(alloc, &job, &meta).ok()?;
+    let table = bound.tables.as_slice().last()?;
+    table.as_slice().last().copied()
+}
+
+// A job of two tables, with a depth in the first and one in the second.
+const TWO_DEPTHS: &str =
+    "<DEPTH> (1,\"B\",3)\n<OPENMICRODATA> \"m.asc\"\n<OPENMETADATA> \"m.rda\"\n<SPECIFYTABLE> \"A\"\"B\"|\"V\"\n<SPECIFYTABLE> \"A\"\"B\"|\"V\"\n<SAFETYRULE> FREQ(3,30)\n<SUPPRESS> MOD()\n<WRITETABLE> (1,\"t.csv\")\n<WRITETABLE> (2,\"u.csv\")\n<CERTIFICATE> \"t.cert\"\n<DEPTH> (2,\"A\",2)\n<DEPTH> (2,\"B\",4)\n";
+
+// Jobs, and the last dimension that each has: with all codes where no line says a depth.
+const LAST_DIMENSIONS: [(&str, &str, u32, u32); 2] = [
+    (FLAT, "V 2 3\n<NUMERIC>\nA 1 1\n", 0, 9),
+    (TWO_DEPTHS, "B 1 1\nA 2 1\nV 3 3\n<NUMERIC>\n", 0, 4),
+];
+
+#[test]
+fn dimensions_of_tables(rt: HostRuntime) {
+    for (job, meta, variable, depth) in &LAST_DIMENSIONS {
+        assert_eq!(rt;
+            last_dimension(rt.alloc(), job.as_bytes(), meta.as_bytes()),
+            Some(Dimension {
+                variable: *variable,
+                depth: *depth
+            })
         );
     }
 }

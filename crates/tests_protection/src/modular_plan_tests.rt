@@ -2,7 +2,7 @@ ghost use Rattle.std.specs.Prelude.{◌≡◌, true, All};
 ghost use Rattle.cost_rule.specs.Costs.{IsTold};
 ghost use Rattle.cost_rule.specs.declared.kind.CostKind.TheVariants as Kinds;
 
-use crate::books::book_of;
+use crate::books::{book_of, book_with_depths};
 use crate::costs::are_costed;
 use cost_rule::{CostKind, CostRule, TellsCosts};
 use fixture_cells::{LINKED, bounded_cell, cell_of};
@@ -10,7 +10,7 @@ use fixture_records::{pairs, two_codes};
 use hierarchy::{CodeTree, from_lead};
 use linked_tables::Book;
 use modular_plan::plan;
-use sdc_base::{Cell, CellFacts, Kind, PlanStep, Text, Trail};
+use sdc_base::{Cell, CellFacts, Dimension, Kind, PlanStep, Text, Trail};
 use std::alloc::Global;
 use std::rt::HostRuntime;
 use std::test::Fail;
@@ -276,5 +276,52 @@ fn two_levels(rt: HostRuntime) -> Result<(), Fail> {
     for passes in &PASSES {
         assert!(rt; is_trail_of_industries(alloc, *passes)?);
     }
+    Ok(())
+}
+
+// The industries down to 1 and 2.
+const UPPER: Dimension = Dimension {
+    variable: 0,
+    depth: 1,
+};
+
+// The truths of the total, 1 and 2 in a table of their own, and of 11, 12 and 21 in a deeper one.
+const UPPER_FIRST: [u32; 6] = [117, 75, 42, 60, 15, 42];
+
+// Their cells: 2 and 21 are primary with levels of 3.
+fn upper_first_cells(alloc: Global) -> Result<Vec<Cell>, Fail> {
+    let mut cells = Vec::new(alloc);
+    for (number, truth) in UPPER_FIRST.iter().enumerate() {
+        let kind = match number {
+            2 | 5 => Kind::Primary,
+            _ => Kind::Free,
+        };
+        cells.push(cell_of(*truth, kind, 3))?;
+    }
+    Ok(cells)
+}
+
+// The book of those two tables.
+fn upper_first(alloc: Global) -> Result<Book, Fail> {
+    let trees = vec![in alloc; industries(alloc)?]?;
+    book_with_depths(
+        alloc,
+        trees,
+        &[&[UPPER], &[Dimension::whole(0)]],
+        &UPPER_FIRST,
+    )
+}
+
+// The first table has no subtable below 1: its cell gets its partner in the second one.
+const UPPER_STEPS: [Step<'static>; 2] = [(0, &[0], 2, &[1, 2]), (1, &[1], 1, &[1, 4])];
+
+#[test]
+fn a_shallow_table_has_no_subtable_below_its_last_level(rt: HostRuntime) -> Result<(), Fail> {
+    let alloc = rt.alloc();
+    let cells = upper_first_cells(alloc)?;
+    let mut book = upper_first(alloc)?;
+    let trail = planned(alloc, &mut book, cells.as_slice(), 1)?;
+    assert!(rt; are_steps(&trail, &UPPER_STEPS));
+    assert!(rt; are_hidden(&book, &[1, 2, 4, 5]));
     Ok(())
 }

@@ -1,7 +1,7 @@
 ghost use Rattle.std.specs.Prelude.{◌≡◌, ◌≤◌, [], length, slice_index_or, true};
 ghost use Rattle.release_writer.specs.Sheets.{HaveNames};
 
-use crate::release_writer_tests::are_from_zero;
+use crate::release_writer_tests::{are_from_zero, upper_regions};
 use fixture_cells::set_truth;
 use fixture_records::{places, texts, tree};
 use linked_tables::Book;
@@ -304,6 +304,30 @@ fn line_ends_in_codes_are_read(rt: HostRuntime) -> Result<(), Fail> {
     let alloc = rt.alloc();
     for (bytes, wanted) in &LINE_ENDS {
         assert_eq!(rt; text_of_line_ends(alloc, bytes)?.as_str(), *wanted);
+    }
+    Ok(())
+}
+
+// What the bytes of a table of the upper regions are read as: a line of a deeper code is none of its own.
+const UPPER_LINES: [(&[u8], &str); 3] = [
+    (b"A,V\nTotal,0\nN,x\nS,0\n", ".x."),
+    (b"A,V\nTotal,0\nN,x\nN1,0\nN2,0\nS,0\n", "table 0 line 4"),
+    (b"A,V\nTotal,0\nN,x\n", "table 0 line 4"),
+];
+
+fn text_of_upper_regions(alloc: Global, bytes: &[u8]) -> Result<String, Fail> {
+    let book = upper_regions(alloc)?;
+    let mut names = Vec::new(alloc);
+    names.push(Items::new(texts(alloc, &[b"A", b"V"])?))?;
+    let tables = texts(alloc, &[bytes])?;
+    hidden_read(alloc, &book, &names, &tables)
+}
+
+#[test]
+fn lines_of_a_shallow_table_are_read(rt: HostRuntime) -> Result<(), Fail> {
+    let alloc = rt.alloc();
+    for (bytes, wanted) in &UPPER_LINES {
+        assert_eq!(rt; text_of_upper_regions(alloc, bytes)?.as_str(), *wanted);
     }
     Ok(())
 }

@@ -2,10 +2,10 @@ ghost use Rattle.std.specs.Prelude.{◌≡◌, true, All, pos, ◌≤ℤ◌, ◌
 ghost use Rattle.sdc_base.specs.Numbers.{too_wide};
 ghost use Rattle.release_writer.specs.ShownCells.{CanBeShown};
 
-use fixture_records::{places, texts, tree};
+use fixture_records::{places, regions, tables, texts, tree};
 use linked_tables::{Book, Mark};
 use release_writer::{Shown, table_bytes};
-use sdc_base::{Hidden, Items, Text};
+use sdc_base::{Dimension, Hidden, Items, Text};
 use std::alloc::Global;
 use std::rt::HostRuntime;
 use std::test::Fail;
@@ -138,5 +138,26 @@ fn suppressed_tables(rt: HostRuntime) -> Result<(), Fail> {
     for (t, bytes) in &SUPPRESSED {
         assert!(rt; has_bytes(alloc, *t, 0, Shown::Hidden(&hidden), bytes)?);
     }
+    Ok(())
+}
+
+// A book of one table over the upper regions, N and S.
+pub(crate) fn upper_regions(alloc: Global) -> Result<Book, Fail> {
+    let upper = Dimension {
+        variable: 0,
+        depth: 1,
+    };
+    let mut trees = Vec::new(alloc);
+    trees.push(regions(alloc)?)?;
+    Ok(Book::with_depths(alloc, trees, tables(alloc, &[&[upper]])?)?)
+}
+
+#[test]
+fn a_shallow_table_has_a_line_for_each_upper_code(rt: HostRuntime) -> Result<(), Fail> {
+    let alloc = rt.alloc();
+    let book = upper_regions(alloc)?;
+    let shown = Shown::Rounded(&[250, 10, 5]);
+    let bytes = named(alloc, &book, 0, 0, shown)?;
+    assert_eq!(rt; bytes.as_slice(), b"A,V\nTotal,250\nN,10\nS,5\n".as_slice());
     Ok(())
 }

@@ -3,6 +3,8 @@
 #![tactic(auto)]
 
 #[cfg(test)]
+mod depth_tests;
+#[cfg(test)]
 mod fault_tests;
 #[cfg(test)]
 mod guarded_tests;

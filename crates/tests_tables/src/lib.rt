@@ -2,6 +2,8 @@
 #![tactic(auto)]
 
 #[cfg(test)]
+mod depth_tests;
+#[cfg(test)]
 mod level_code_tests;
 #[cfg(test)]
 mod linked_tables_tests;

@@ -1,9 +1,9 @@
 ghost use Rattle.std.specs.Prelude.{None, slice_get, ◌≡◌, ◌<◌, ◌≤◌, ◌^◌, ℕ, [], true, length, slice_index, slice_index_or, All, pos, ◌≤ℤ◌, ◌<ℤ◌};
 ghost use Rattle.tabulate.specs.TabulatedMarks.{CanBeTabulated, HasNone, IsRow};
 
-use fixture_records::{Record, pairs, places, regions, rows, thirteen, two_codes};
+use fixture_records::{Record, pairs, places, regions, rows, tables, thirteen, two_codes};
 use linked_tables::{Book, Mark};
-use sdc_base::{Place, Row};
+use sdc_base::{Dimension, Place, Row};
 use std::alloc::Global;
 use std::rt::HostRuntime;
 use std::test::Fail;
@@ -368,6 +368,48 @@ fn records_count_under_each_code_above(rt: HostRuntime) -> Result<(), Fail> {
     let book = regional(rt.alloc())?;
     for (region, sums, numbers) in &REGIONS {
         assert_eq!(rt; counted(&book, *region), Some((*sums, *numbers)));
+    }
+    Ok(())
+}
+
+// A book of the upper regions by two codes, and of all regions alone, given the same records.
+fn upper_regional(alloc: Global) -> Result<Book, Fail> {
+    let upper = Dimension {
+        variable: 0,
+        depth: 1,
+    };
+    let mut trees = Vec::new(alloc);
+    trees.push(regions(alloc)?)?;
+    trees.push(two_codes(alloc)?)?;
+    let lists = tables(
+        alloc,
+        &[&[upper, Dimension::whole(1)], &[Dimension::whole(0)]],
+    )?;
+    let mut book = Book::with_depths(alloc, trees, lists)?;
+    let rows = rows_of(alloc, POWERS, false)?;
+    if tabulated(&mut book, rows.as_slice(), 2, 1) {
+        Ok(book)
+    } else {
+        Err(Fail::new("no records to be tabulated"))
+    }
+}
+
+// The sum over a region alone.
+fn sum_of(book: &Book, region: u32) -> Option<i128> {
+    let facts = facts_at(book, 1, &[region])?;
+    Some(facts.0)
+}
+
+#[test]
+fn records_of_deeper_codes_count_in_a_shallow_table(rt: HostRuntime) -> Result<(), Fail> {
+    let book = upper_regional(rt.alloc())?;
+    for (region, sums, numbers) in &REGIONS {
+        let wanted = match *region {
+            0 | 1 | 4 => Some((*sums, *numbers)),
+            _ => None,
+        };
+        assert_eq!(rt; counted(&book, *region), wanted);
+        assert_eq!(rt; sum_of(&book, *region), Some(sums[0]));
     }
     Ok(())
 }

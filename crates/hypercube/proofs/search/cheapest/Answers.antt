@@ -4,6 +4,7 @@ use Rattle.sdc_base.specs.Cubes.{cubes_at, edges_at}
 use Rattle.sdc_base.specs.CubeOrder.{Offer, comes_before, first_by}
 use Rattle.sdc_base.specs.declared.cube.Cube.{Cube}
 use Rattle.sdc_base.specs.declared.cube.Edge.{Edge}
+use Rattle.sdc_base.specs.declared.dimension.Dimension.{Dimension}
 use Rattle.linked_tables.specs.BookCells.{cell_at, cells as cells_in}
 use Rattle.hypercube.specs.Branches.{Setting, begin_at, best_beyond, codes_at, offers_of}
 use Rattle.hypercube.specs.LeastCubes.{cubes_in, is_marked, least_cube, price_in}
@@ -77,7 +78,7 @@ returns-clause-least g c =
     ∙ ap (λ (lists : List (List PricedEdge)). best_beyond setting None [] (edge_lists lists)) c.as_slice-2.ensures.value
     ∙ search-ranked setting book.trees c.name_of-name.result c.table_of-table.result subtable.parents all c.cells.ensures.book c.codes_at-codes.ensures are
     ∙ ap (λ (codes : Name). first_by comes_before (offers_of setting (cubes_at book.trees codes c.table_of-table.result subtable.parents))) name
-    ∙ ap (λ (spanned : List ℕ). first_by comes_before (offers_of setting (cubes_at book.trees (slice_index_or (cells_in book) c.args.cell []) spanned subtable.parents))) table
+    ∙ ap (λ (spanned : List Dimension). first_by comes_before (offers_of setting (cubes_at book.trees (slice_index_or (cells_in book) c.args.cell []) spanned subtable.parents))) table
     in
     c.cube_of.ensures ∙ ap (λ (best : Option Offer). option_map (λ (offer : Offer). offer.1) best) found
 

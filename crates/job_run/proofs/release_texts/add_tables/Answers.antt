@@ -1,13 +1,23 @@
 use Rattle.std.proofs.Common.{◌≡◌, ◌<◌, ◌≤◌, ◌+◌, List, ◌∷◌, [], ◌++◌, length, take, ap, sym, subst, ◌∙◌, arith, append_assoc}
 use Rattle.std.specs.Prelude.{slice_index_or}
+use Rattle.sdc_base.specs.declared.dimension.Dimension.{Dimension}
 use Rattle.job_lang.specs.declared.job.OutputLine.{OutputLine}
 use Rattle.job_lang.specs.declared.job.TableLine.{TableLine}
 use Rattle.job_run.specs.Books.{shown_by}
 use Rattle.job_run.specs.Releases.{tables_from}
 use Rattle.job_run.specs.declared.put.FilePut.{FilePut}
 use Rattle.job_inputs.proofs.FieldSteps.{one-longer}
-use Rattle.job_run.proofs.TableSteps.{put_at, tables-all, tables-more}
+use Rattle.job_run.proofs.TableSteps.{put_at, same-width, tables-all, tables-more}
 use Rattle.job_run.proofs.release_texts.add_tables.Goals as goal
+
+pub table_put-requires-clause-header : goal.table_put-requires-clause-header
+table_put-requires-clause-header c =
+    let described = c.args.described.now in
+    let lines = described.job.tables in
+    let here = subst (λ (xs : List TableLine). c.tables.t < length xs) c.as_slice-line-items.ensures c.tables-test.true in
+    let line = subst (λ (xs : List TableLine). c.line-item.result ≡ slice_index_or xs c.tables.t c.line-item.result) c.as_slice-line-items.ensures c.line-item.is in
+    same-width described.bound.tables lines c.tables.t c.line-item.result c.requires.shown.sound.bound.tables here line
+    ∙ ap (λ (tables : List (List Dimension)). length (slice_index_or tables c.tables.t [])) (sym c.requires.shown.ready.tables)
 
 pub tables-preserved : goal.tables-preserved
 tables-preserved c = record {

@@ -5,6 +5,7 @@ use Rattle.std.proofs.lemmas.Result.{err_from_is_err_and}
 use Rattle.sdc_base.specs.Records.{Name}
 use Rattle.sdc_base.specs.Answers.{Fails}
 use Rattle.sdc_base.specs.Cells.{cells_of, named_by, with_name}
+use Rattle.sdc_base.specs.declared.dimension.Dimension.{Dimension}
 use Rattle.linked_tables.specs.Tables.{most_cells, book_fault_of, variables_fault}
 use Rattle.linked_tables.specs.BookCells.{IsTable}
 use Rattle.linked_tables.specs.BookKeeping.{names_within_limit, starts_of}
@@ -56,7 +57,7 @@ returns-clause-numbered c =
     let whole : take t tables ≡ tables = take_all t tables c.tables-test.false in
     let end : t ≡ length tables = omega (arith, c.tables-test.false, c.tables.auto.t-end) in
     record {
-      sound = subst (λ (some : List (List ℕ)). All (IsTable (length trees)) some) whole c.tables.invariant.sound;
+      sound = subst (λ (some : List (List Dimension)). All (IsTable (length trees)) some) whole c.tables.invariant.sound;
       named = c.tables.invariant.named ∙ ap (cells_of trees) whole;
       at_most = c.tables.invariant.room;
       begun = c.tables.invariant.begun ∙ ap (λ n. starts_of trees tables (n + 1)) end;

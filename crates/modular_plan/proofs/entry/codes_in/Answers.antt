@@ -1,27 +1,32 @@
-use Rattle.std.proofs.Common.{◌<◌, ◌++◌, ◌∷◌, [], ℕ, List, Option, slice_index_or, arith, ap, sym, subst, ◌∙◌, append_assoc}
+use Rattle.std.proofs.Common.{◌<◌, ◌++◌, ◌∷◌, [], ℕ, List, Option, arith, ap, sym, subst, ◌∙◌, append_assoc}
+use Rattle.sdc_base.specs.Cells.{cut_tree}
 use Rattle.code_trees.specs.Children.{next_sibling}
-use Rattle.code_trees.proofs.Children.{children_from, children-are, children-next, first-is_child, left_from, next-is_child, next-smaller}
+use Rattle.code_trees.proofs.Children.{children_from, children-next, left_from, next-is_child, next-smaller}
+use Rattle.linked_tables.proofs.CutChildren.{children-within-are, first-within-is_child}
 use Rattle.modular_plan.proofs.entry.codes_in.Goals as goal
 
 pub children-init : goal.children-init
 children-init c =
-    let tree = slice_index_or c.args.book.now.trees c.args.variable [] in
+    let cut = cut_tree c.args.book.now.trees c.args.dimension in
+    let tree = cut.tree in
     let parent = c.args.parent in
     record {
-      rest = ap (λ (codes : List ℕ). codes ++ children_from tree parent c.first_child-met.result) (c.in_ok-push.ensures.items ∙ ap (λ (codes : List ℕ). codes ++ parent ∷ []) c.new-codes.ensures.items)
-          ∙ ap (λ (codes : List ℕ). parent ∷ codes) (ap (children_from tree parent) c.first_child-met.ensures ∙ sym (children-are tree parent));
-      child = λ child is. first-is_child tree parent child (sym c.first_child-met.ensures ∙ is);
+      rest = ap (λ (codes : List ℕ). codes ++ children_from tree parent c.first_child_within-met.result) (c.in_ok-push.ensures.items ∙ ap (λ (codes : List ℕ). codes ++ parent ∷ []) c.new-codes.ensures.items)
+          ∙ ap (λ (codes : List ℕ). parent ∷ codes) (ap (children_from tree parent) c.first_child_within-met.ensures ∙ sym (children-within-are cut parent));
+      child = λ child is. first-within-is_child cut parent child (sym c.first_child_within-met.ensures ∙ is);
     }
 
 pub children-smaller : goal.children-smaller
 children-smaller c =
-    let tree = slice_index_or c.args.book.now.trees c.args.variable [] in
+    let cut = cut_tree c.args.book.now.trees c.args.dimension in
+    let tree = cut.tree in
     let one = c.children.invariant.child c.in-Some.child c.in-Some.is in
     subst (λ (met : Option ℕ). left_from tree c.next_sibling-met.result < left_from tree met) (sym c.in-Some.is) (next-smaller tree c.args.parent c.in-Some.child c.next_sibling-met.result one c.next_sibling-met.ensures)
 
 pub children-preserved : goal.children-preserved
 children-preserved c =
-    let tree = slice_index_or c.args.book.now.trees c.args.variable [] in
+    let cut = cut_tree c.args.book.now.trees c.args.dimension in
+    let tree = cut.tree in
     let parent = c.args.parent in
     let child = c.in-Some.child in
     let one = c.children.invariant.child child c.in-Some.is in

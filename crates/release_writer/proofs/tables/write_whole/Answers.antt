@@ -2,6 +2,7 @@ use Rattle.std.proofs.Common.{◌<◌, ◌++◌, ◌∷◌, [], ℕ, List, lengt
 use Rattle.std.proofs.lemmas.Result.{on_ok_weaker}
 use Rattle.sdc_base.specs.Cells.{trees_of}
 use Rattle.sdc_base.specs.TableText.{line_text, codes_of_place, shown_text}
+use Rattle.sdc_base.specs.declared.dimension.Dimension.{Dimension}
 use Rattle.linked_tables.specs.BookCells.{name_in_table}
 use Rattle.release_writer.specs.ShownCells.{number_shown}
 use Rattle.release_writer.specs.Lines.{bytes_written}
@@ -10,7 +11,7 @@ use Rattle.release_writer.proofs.ShownText.{shown-some}
 use Rattle.release_writer.proofs.tables.write_whole.Goals as goal
 
 pub write_place-requires-clause-at_most_8 : goal.write_place-requires-clause-at_most_8
-write_place-requires-clause-at_most_8 c = omega (arith, ap (λ (t : List ℕ). length t) c.as_slice.ensures, c.requires.at_most_8)
+write_place-requires-clause-at_most_8 c = omega (arith, ap (λ (t : List Dimension). length t) c.as_slice.ensures, c.requires.at_most_8)
 
 pub write_place-requires-clause-number : goal.write_place-requires-clause-number
 write_place-requires-clause-number c =
