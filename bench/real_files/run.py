@@ -192,13 +192,14 @@ def try_others(tries):
         change(folder, '"turnover.csv"', '"%s"' % name)
         tries.expect("put " + name, folder, ["run", JOB], (6, "write fault: table 1"), "argus: %s: %s" % (name, why))
     for name, file in (("firms.asc", "microdata"), ("firms.rda", "metadata"), (JOB, "job")):
-        folder = tries.folder()
-        if name == JOB:
-            words = ["run", "inner"]
-        else:
-            words = ["run", JOB]
-            change(folder, '"%s"' % name, '"inner"')
-        tries.expect("read a folder as " + file, folder, words, (5, "read fault: " + file), "argus: inner: Is a directory")
+        for other in ("inner", "pipe", "socket", "/dev/zero"):
+            folder = tries.folder()
+            if name == JOB:
+                words = ["run", other]
+            else:
+                words = ["run", JOB]
+                change(folder, '"%s"' % name, '"%s"' % other)
+            tries.expect("read %s as %s" % (other, file), folder, words, (5, "read fault: " + file), "argus: %s: %s" % (other, NOT_PLAIN))
 
 
 def try_permissions(tries):

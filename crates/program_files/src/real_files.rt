@@ -54,13 +54,19 @@ impl<'a, R: Files + Eprint> RealFiles<'a, R> {
         }
     }
 
-    /// Opens a file to be read, whatever it is, and remembers it.
+    /// Opens a plain file to be read, and remembers it.
     ///
-    /// One that can't be remembered isn't read. The error is of the kind `NotFound` where the system
-    /// finds no file.
+    /// A name that leads to anything else is refused before it is opened, since a pipe may never give
+    /// a byte; and the opened file is looked at once more, since another program may turn the name
+    /// elsewhere in between. One that can't be remembered isn't read. The error is of the kind
+    /// `NotFound` where the system finds no file.
     pub fn open(&self, name: &Text) -> io::Result<R::File> {
-        let file = fs::open(self.rt, path_of(name)?)?;
-        self.remember(mark_of(&file.metadata()?))?;
+        let path = path_of(name)?;
+        check_plain(&fs::metadata(self.rt, path)?)?;
+        let file = fs::open(self.rt, path)?;
+        let found = file.metadata()?;
+        check_plain(&found)?;
+        self.remember(mark_of(&found))?;
         Ok(file)
     }
 
@@ -100,7 +106,7 @@ impl<'a, R: Files + Eprint> RealFiles<'a, R> {
         };
         match why_not(opened.as_slice(), found.is_file(), mark_of(found)) {
             None => Ok(()),
-            Some(Refusal::NotPlain) => Err(Error::other("is no plain file")),
+            Some(Refusal::NotPlain) => Err(not_plain()),
             Some(Refusal::Opened) => Err(Error::other("was read or written before in this run")),
         }
     }
@@ -127,6 +133,19 @@ fn why_not(opened: &[FileMark], is_plain: bool, mark: FileMark) -> Option<Refusa
         return Some(Refusal::Opened);
     }
     None
+}
+
+// Refuses what is no plain file.
+fn check_plain(found: &Metadata) -> io::Result<()> {
+    if !found.is_file() {
+        return Err(not_plain());
+    }
+    Ok(())
+}
+
+// What is said of a folder, a device, a pipe or a socket.
+fn not_plain() -> Error {
+    Error::other("is no plain file")
 }
 
 fn mark_of(found: &Metadata) -> FileMark {
@@ -260,6 +279,30 @@ mod tests {
         assert!(rt; read_all(rt.alloc(), &mut shelf, &name, 9).is_ok());
         assert_eq!(rt; fault_of(&rt, &mut tray, &folder, "table", "first")?, None);
         assert!(rt; are_refused(&rt, &mut tray, &folder)?);
+        folder.remove(&rt)
+    }
+
+    // Whether none of these names is read: folders and devices.
+    fn are_unread(
+        rt: &HostRuntime,
+        shelf: &mut FileShelf<'_, HostRuntime>,
+        folder: &TestFolder,
+    ) -> Result<bool, Fail> {
+        for file in ["inner", "way", "device"] {
+            let name = folder.name(rt, file)?;
+            if read_all(rt.alloc(), shelf, &name, 9).is_ok() {
+                return Ok(false);
+            }
+        }
+        Ok(true)
+    }
+
+    #[test]
+    fn no_other_files_are_read(rt: HostRuntime) -> Result<(), Fail> {
+        let folder = folder_of_names(&rt)?;
+        let files = RealFiles::new(&rt, "argus");
+        let mut shelf = FileShelf::new(&files);
+        assert!(rt; are_unread(&rt, &mut shelf, &folder)?);
         folder.remove(&rt)
     }
 
