@@ -3,7 +3,7 @@ from itertools import product, repeat
 from operator import itemgetter
 from typing import Dict, List, Optional, Sequence, Set, Tuple
 
-from metadata import Bound, Tree
+from metadata import Bound, CutTree, Tree
 from records import Group, Records
 from texts import Unreadable, printable
 
@@ -55,6 +55,8 @@ class Book:
 
     def __init__(self, trees: List[Tree], bound: Bound) -> None:
         self.trees, self.bound = trees, bound
+        self.cuts = [[CutTree(trees[place], level) for place, level in zip(spans, levels)]
+                     for spans, levels in zip(bound.tables, bound.depths)]      # per table, in the order of its variables
         self.cells: List[Cell] = []
         self.numbers: Dict[Name, int] = {}
         self.tables: List[List[int]] = []               # per table its cells in the order of its lines
@@ -66,9 +68,9 @@ class Book:
     def _add_table(self, number: int, spans: Sequence[int]) -> None:
         """Names the cells of one table."""
         own, template, size = [], [0] * len(self.trees), 1
-        for place in spans:
-            size *= len(self.trees[place].codes)
-        for places in product(*(range(len(self.trees[place].codes)) for place in spans)) if size <= CELLS else ():
+        for cut in self.cuts[number]:
+            size *= len(cut.places)
+        for places in product(*(cut.places for cut in self.cuts[number])) if size <= CELLS else ():
             for variable, place in zip(spans, places):
                 template[variable] = place
             name = tuple(template)
@@ -81,18 +83,17 @@ class Book:
         self.tables.append(own)
 
     def _relate(self) -> None:
-        """A relation for each cell and variable that a table with the cell spans and whose code has codes below it."""
-        spanned: List[Set[int]] = [set() for _ in self.cells]
-        for spans, own in zip(self.bound.tables, self.tables):
+        """A relation for each cell and variable where a table with the cell has codes of the variable right below the cell's."""
+        summed: List[Set[int]] = [set() for _ in self.cells]
+        for spans, cuts, own in zip(self.bound.tables, self.cuts, self.tables):
             for cell in own:
-                spanned[cell].update(spans)
+                name = self.cells[cell].name
+                summed[cell].update(variable for variable, cut in zip(spans, cuts) if cut.children(name[variable]))
         for number, cell in enumerate(self.cells):
-            for variable in sorted(spanned[number]):
-                children = self.trees[variable].children[cell.name[variable]]
-                if children:
-                    before, after = cell.name[:variable], cell.name[variable + 1:]
-                    parts = [self.numbers[before + (child,) + after] for child in children]
-                    self.relations.append((number, variable, parts))
+            for variable in sorted(summed[number]):
+                before, after = cell.name[:variable], cell.name[variable + 1:]
+                parts = [self.numbers[before + (child,) + after] for child in self.trees[variable].children[cell.name[variable]]]
+                self.relations.append((number, variable, parts))
 
     def tabulate(self, records: Records, keep: int) -> None:
         """Gives every record to each cell that it falls into, once: through the first table that has the cell. Records with
@@ -106,8 +107,8 @@ class Book:
                 leaf.add(content, keep)
             for key, leaf in leaves.items():
                 above = [(0,)] * len(self.trees)
-                for variable, code in zip(spans, key if len(spans) > 1 else (key,)):
-                    above[variable] = self.trees[variable].above(self.trees[variable].places[code])
+                for variable, cut, code in zip(spans, self.cuts[number], key if len(spans) > 1 else (key,)):
+                    above[variable] = cut.above(cut.tree.places[code])
                 for name in product(*above):
                     cell = self.cells[self.numbers[name]]
                     if cell.table == number:

@@ -6,6 +6,8 @@ from texts import BLANKS, Unreadable, lines, whole, whole_in
 
 NAME = rb'"([\x20\x21\x23-\x7e]{1,255})"'
 DIGITS = rb"([0-9]+)"
+LEVELS = 9              # the deepest level below the total
+Key = Tuple[str, int, bytes]
 NEEDED = ("OPENMICRODATA", "OPENMETADATA", "SPECIFYTABLE", "SAFETYRULE", "SUPPRESS", "WRITETABLE", "CERTIFICATE")
 
 
@@ -16,11 +18,12 @@ def _form(*tokens: bytes) -> "re.Pattern[bytes]":
 
 FORMS: Dict[bytes, "re.Pattern[bytes]"] = {
     b"OPENMICRODATA": _form(NAME), b"OPENMETADATA": _form(NAME), b"CERTIFICATE": _form(NAME), b"CONTRIBUTORS": _form(NAME),
-    b"SPECIFYTABLE": _form(rb'((?:"[^"]*"[ \t]*){1,6})\|', rb'("[^"]*")', rb'((?:\|[ \t]*(?:"[^"]*")?[ \t]*)*)'),
+    b"SPECIFYTABLE": _form(rb'((?:"[^"]*"[ \t]*){1,6})\|', rb'("[^"]*")', rb'((?:\|[ \t]*(?:"[^"]*"[ \t]*)?)*)'),
+    b"DEPTH": _form(rb"\(", DIGITS, b",", rb'"([^"]*)"', b",", DIGITS, rb"\)"),
     b"SAFETYRULE": _form(rb"(.+)"), b"READMICRODATA": _form(rb"()"),
     b"APRIORI": _form(NAME, b",", DIGITS, b",", rb'"([^0-9." \t\r])"'),
     b"COST": _form(rb"(VALUE|FREQ|UNIT)"), b"STEPS": _form(DIGITS), b"NODES": _form(DIGITS),
-    b"SUPPRESS": _form(rb"(GH|MOD|RND)", rb"\(", rb"([0-9]*)", rb"\)"),
+    b"SUPPRESS": _form(rb"(GH|MOD|RND)", rb"\(", rb"(?:([0-9]+)[ \t]*)?\)"),
     b"WRITETABLE": _form(rb"\(", DIGITS, b",", NAME, rb"\)"),
 }
 RULE = _form(rb"(FREQ|NK|PQ|P|ZERO|MAN|WGT)", rb"\(", DIGITS, rb"(?:,[ \t]*([0-9]+)[ \t]*)?\)")
@@ -44,11 +47,20 @@ class Prior(NamedTuple):
     separator: bytes
 
 
+class Depth(NamedTuple):
+    """How deep a table takes a variable's tree: line, number of the table from 1, the variable as written, and the level."""
+    line: int
+    table: int
+    variable: bytes
+    level: int
+
+
 class Job:
     """A job that has no fault by itself. Output files stand by table; a rule is its word and its numbers."""
 
     def __init__(self) -> None:
         self.tables: List[Table] = []
+        self.depths: List[Depth] = []
         self.rules: List[Tuple[str, Tuple[int, ...]]] = []
         self.manual, self.weighted = 20, False
         self.priors: List[Prior] = []
@@ -111,9 +123,26 @@ def _method(match: "re.Match[bytes]") -> Optional[Tuple[str, int]]:
     """The method of a SUPPRESS line and its number: passes of GH (MOD is one pass), base of RND."""
     word = match.group(1).upper().decode()
     if word == "MOD":
-        return ("MOD", 1) if not match.group(2) else None
-    number = whole_in(match.group(2), 1, 8 if word == "GH" else 10 ** 9)
+        return ("MOD", 1) if match.group(2) is None else None
+    number = whole_in(match.group(2) or b"", 1, 8 if word == "GH" else 10 ** 9)
     return None if number is None else (word, number)
+
+
+def _add_table(job: Job, number: int, match: "re.Match[bytes]") -> None:
+    """Puts a SPECIFYTABLE line into the job, with its faults."""
+    table = _table(number, match)
+    if table is None:
+        raise _bad(number)
+    if len(job.tables) == 8 or len({v for t in job.tables + [table] for v in t.variables}) > 8:
+        raise fault(number, "TooMany", "a ninth table, or more than 8 spanning variables in all")
+    if job.tables and job.tables[0].response != table.response:
+        raise fault(number, "OtherResponse", "the response isn't that of the first table")
+    job.tables.append(table)
+
+
+def _bad(number: int) -> Unreadable:
+    """A line's argument that isn't good."""
+    return fault(number, "BadValue", "what follows the command isn't as it should be, or is out of range")
 
 
 def _take(job: Job, number: int, word: str, match: "re.Match[bytes]") -> bool:
@@ -127,14 +156,26 @@ def _take(job: Job, number: int, word: str, match: "re.Match[bytes]") -> bool:
         method = _method(match)
         job.method = method or job.method
         return method is not None
+    if word == "DEPTH":
+        level = whole_in(match.group(3), 1, LEVELS)
+        job.depths.append(Depth(number, whole(match.group(1)) or 0, match.group(2), level or 0))
+        return level is not None
     if word == "COST":
         job.cost = match.group(1).upper()
-    elif word != "READMICRODATA":
+    elif word not in ("READMICRODATA", "APRIORI", "WRITETABLE"):
         job.files[word] = (number, match.group(1))
     return True
 
 
-def _line(job: Job, number: int, text: bytes, seen: Set[Tuple[str, int]]) -> None:
+def _key(word: str, match: "re.Match[bytes]") -> Key:
+    """What may stand once: the command, and where it names a table that table's number, and the variable of a depth."""
+    if word == "DEPTH":
+        return word, whole(match.group(1)) or 0, match.group(2)
+    table = {"APRIORI": 2, "WRITETABLE": 1}.get(word)
+    return word, (whole(match.group(table)) or 0) if table else 0, b""
+
+
+def _line(job: Job, number: int, text: bytes, seen: Set[Key]) -> None:
     """One line of the job, with its faults in their order."""
     close = text.find(b">")
     if not text.startswith(b"<") or close < 2:
@@ -143,33 +184,20 @@ def _line(job: Job, number: int, text: bytes, seen: Set[Tuple[str, int]]) -> Non
     if command not in FORMS:
         raise fault(number, "UnknownCommand", "there is no such command")
     word, match = command.decode(), FORMS[command].fullmatch(argument)
-    bad = fault(number, "BadValue", "what follows the command isn't as it should be, or is out of range")
     if not match:
-        raise bad
-    key = (word, 0)
+        raise _bad(number)
     if word == "SPECIFYTABLE":
-        table = _table(number, match)
-        if table is None:
-            raise bad
-        if len(job.tables) == 8 or len({v for t in job.tables + [table] for v in t.variables}) > 8:
-            raise fault(number, "TooMany", "a ninth table, or more than 8 spanning variables in all")
-        if job.tables and job.tables[0].response != table.response:
-            raise fault(number, "OtherResponse", "the response isn't that of the first table")
-        job.tables.append(table)
+        _add_table(job, number, match)
         return
-    if word == "APRIORI":
-        key = (word, whole(match.group(2)) or 0)
-        prior = Prior(number, match.group(1), key[1], match.group(3))
-    elif word == "WRITETABLE":
-        key = (word, whole(match.group(1)) or 0)
-    elif not _take(job, number, word, match):
-        raise bad
+    if not _take(job, number, word, match):
+        raise _bad(number)
+    key = _key(word, match)
     if key in seen:
-        raise fault(number, "Twice", "an earlier line has the same command, for tables and a priori files of the same table")
+        raise fault(number, "Twice", "an earlier line has the same command, and the same table and variable where it names them")
     seen.add(key)
     job.lines_of[word] = number
     if word == "APRIORI":
-        job.priors.append(prior)
+        job.priors.append(Prior(number, match.group(1), key[1], match.group(3)))
     elif word == "WRITETABLE":
         job.outputs[key[1]] = (number, match.group(2))
 
@@ -183,17 +211,8 @@ def read_job(data: bytes) -> Job:
             _line(job, number, text, seen)
     if "CONTRIBUTORS" in job.files and "SUPPRESS" in job.lines_of and job.method[0] == "RND":
         raise fault(job.files["CONTRIBUTORS"][0], "BadValue", "a job that rounds has no contributors' file")
-    numbered = [(prior.line, prior.table) for prior in job.priors]
-    numbered += [(line, table) for table, (line, _) in job.outputs.items()]
-    for line, table in sorted(numbered):
-        if not 1 <= table <= len(job.tables):
-            raise fault(line, "NoSuchTable", "the job has no table of this number")
-    inputs = [job.files[word][1] for word in ("OPENMICRODATA", "OPENMETADATA") if word in job.files]
-    inputs += [prior.file for prior in job.priors]
-    names = [name for _, name in job.written()]
-    for line, name in sorted(job.written()):
-        if name in inputs or names.count(name) > 1:
-            raise fault(line, "SameName", "the line writes a file that another line writes too, or that the job reads")
+    _tables_named(job)
+    _files_named(job)
     there = set(job.lines_of) | ({"SPECIFYTABLE"} if job.tables else set())
     if len(job.outputs) < len(job.tables):
         there.discard("WRITETABLE")
@@ -201,3 +220,25 @@ def read_job(data: bytes) -> Job:
         if word not in there:
             raise fault(0, "Missing " + word, "the job has no such command, or not for each table")
     return job
+
+
+def _tables_named(job: Job) -> None:
+    """Every line that names a table by its number names one of the job, and every depth a variable of its table."""
+    numbered = [(prior.line, prior.table) for prior in job.priors] + [(depth.line, depth.table) for depth in job.depths]
+    numbered += [(line, table) for table, (line, _) in job.outputs.items()]
+    for line, table in sorted(numbered):
+        if not 1 <= table <= len(job.tables):
+            raise fault(line, "NoSuchTable", "the job has no table of this number")
+    for depth in job.depths:
+        if depth.variable not in job.tables[depth.table - 1].variables:
+            raise fault(depth.line, "NotInTable", "the table isn't spanned by the variable")
+
+
+def _files_named(job: Job) -> None:
+    """No line writes a file that the job reads, or that another line writes."""
+    inputs = [job.files[word][1] for word in ("OPENMICRODATA", "OPENMETADATA") if word in job.files]
+    inputs += [prior.file for prior in job.priors]
+    names = [name for _, name in job.written()]
+    for line, name in sorted(job.written()):
+        if name in inputs or names.count(name) > 1:
+            raise fault(line, "SameName", "the line writes a file that another line writes too, or that the job reads")

@@ -1,4 +1,5 @@
-"""Makes small jobs of every kind, with all their files, from a seed; some have a fault in an input."""
+"""Makes small jobs of every kind, with all their files, from a seed; some have a fault in an input. Those of every third seed take
+tables down to a level."""
 import random
 from typing import Dict, List, Tuple
 
@@ -9,7 +10,7 @@ class Made:
     """One made job: `files` has the bytes of every file, `job.job` among them."""
 
     def __init__(self, seed: int) -> None:
-        self.draw = random.Random(seed)
+        self.draw, self.deep = random.Random(seed), seed % 3 == 0
         self.files: Files = {}
         self.variables: List[Tuple[str, int, int, List[bytes]]] = []         # name, first byte, width, codes of records
         self.metadata: List[bytes] = []
@@ -27,7 +28,8 @@ class Made:
 
     def _variable(self, name: bytes) -> None:
         """A spanning variable: flat with or without a code list, with levels, or with a hierarchy file."""
-        draw, kind = self.draw, self.draw.choice(("flat", "flat", "listed", "levels", "levels", "hierarchy", "hierarchy"))
+        kinds = ("flat", "listed", "levels", "levels", "hierarchy", "hierarchy")
+        draw, kind = self.draw, self.draw.choice(kinds if self.deep else kinds[:1] + kinds)
         total, keywords, missing = b"Total", [], b""
         if self._maybe(0.2):
             total = draw.choice((b"T", b"All codes"))
@@ -95,14 +97,33 @@ class Made:
     def _tables(self) -> None:
         draw, names = self.draw, [name for name, _, _, _ in self.variables]
         self.tables: List[List[str]] = []
+        if self.deep:
+            self.tables = [draw.sample(names, draw.randrange(1, min(len(names), 2) + 1)) for _ in range(draw.choice((1, 2, 2, 3)))]
+            return
         for _ in range(draw.choice((1, 1, 1, 2)) if len(names) > 1 else 1):
             most = min(len(names), 2 if self._maybe(0.8) else 3)
             self.tables.append(draw.sample(names, draw.randrange(1 if len(names) < 2 else min(2, most), most + 1)))
+
+    def _depths(self) -> List[bytes]:
+        """How deep the tables go: most lines are good ones."""
+        draw, lines = self.draw, []
+        for number, names in enumerate(self.tables, 1):
+            for name in names:
+                if self._maybe(0.6):
+                    lines.append(b'<DEPTH> (%d,"%s",%d)' % (number, name.encode(), draw.choice((1, 1, 1, 2, 2, 3, 9))))
+        if self._maybe(0.15):
+            odd = (b"(0,%s,1)", b"(%d,%%s,1)" % (len(self.tables) + 1), b"(1,%s,0)", b"(1,%s,10)", b'(1,"N",2)', b"(001 , %s\t,\t02 )",
+                   b"(1 %s,1)", b"(1,%s)", b"1,%s,1", b'(1,"",1)', b"(1,%s,1", b"(%d,%%s,1)" % 10 ** 60, b"(1,%%s,%d)" % 10 ** 60)
+            form, name = draw.choice(odd), b'"%s"' % draw.choice(self.variables)[0].encode()
+            lines += [b"<DEPTH> " + (form % name if b"%s" in form else form)] * draw.choice((1, 1, 2))
+        return lines
 
     def _prior(self, table: int) -> bytes:
         """A priori lines for the table, most of them good ones."""
         draw, lines = self.draw, []
         codes = {name: codes + [b"Total"] for name, _, _, codes in self.variables}
+        if self.deep:                                      # codes above those of the records: where there are levels, their first byte
+            codes = {name: own + [code[:1] for code in own] for name, own in codes.items()}
         for _ in range(draw.randrange(1, 5)):
             fields = [draw.choice(codes[name]) for name in self.tables[table]]
             word = draw.choice((b"s", b"p", b"c", b"pl", b"b", b"u"))
@@ -136,6 +157,10 @@ class Made:
             lines.append(b'<CONTRIBUTORS> "c.extra"')
         if self._maybe(0.3):
             lines.append(b"<COST> " + draw.choice((b"VALUE", b"FREQ", b"UNIT")))
+        if self.deep:
+            lines += self._depths()
+            if self._maybe(0.3):
+                draw.shuffle(lines)
         lines += [b"<STEPS> 100", b"<NODES> 500"]          # a job that needs more is undecided, and isn't compared
         self.files["m.rda"] = b"\n".join(self.metadata) + b"\n"
         self.files["job.job"] = b"\n".join(lines) + b"\n"

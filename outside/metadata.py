@@ -1,14 +1,16 @@
 """Metadata, code lists and hierarchies: where a variable stands in a record, and the tree of its codes (manual: Metadata; Hierarchies and code lists)."""
+import re
 from typing import Dict, List, NamedTuple, Optional, Tuple
 
-from job import Job, fault as job_fault
+from job import LEVELS, Job, fault as job_fault
 from texts import BLANKS, FILE_NAME, Unreadable, lines, whole, whole_in
 
 CODES = 5000            # codes of a variable besides the total
-DEPTH = 9               # levels below the total
 PASSED_OVER = (b"REQUEST", b"HOLDING", b"DISTANCE")
 KEYWORDS = PASSED_OVER + (b"RECODEABLE", b"RECODABLE", b"NUMERIC", b"DECIMALS", b"WEIGHT", b"CODELIST", b"HIERARCHICAL",
                           b"HIERLEVELS", b"HIERCODELIST", b"HIERLEADSTRING", b"TOTCODE")
+
+WORD = re.compile(rb'"([^"]*)"|([^ \t]+)', re.S)
 
 
 class Variable:
@@ -35,6 +37,7 @@ class Bound(NamedTuple):
     spanning: List[Variable]
     numbers: List[int]                   # of the spanning variables in the metadata, from 1
     tables: List[List[int]]
+    depths: List[List[int]]              # per table and variable of it, the level down to which its tree is taken
     response: Variable
     weight: Optional[Variable]
 
@@ -51,19 +54,7 @@ def fault(line: int, kind: str, words: str) -> Unreadable:
 
 def words_of(text: bytes) -> List[bytes]:
     """Words: in quotes, or a run without blanks. A quote without a second one in the line is part of its run."""
-    found: List[bytes] = []
-    text = text.lstrip(BLANKS)
-    while text:
-        close = text.find(b'"', 1) if text.startswith(b'"') else -1
-        if close > 0:
-            found.append(text[1:close])
-            text = text[close + 1:]
-        else:
-            end = min([k for k in (text.find(b" "), text.find(b"\t")) if k >= 0] or [len(text)])
-            found.append(text[:end])
-            text = text[end:]
-        text = text.lstrip(BLANKS)
-    return found
+    return [run or quoted for quoted, run in WORD.findall(text)]
 
 
 def _variable(number: int, text: bytes, before: List[Variable]) -> Variable:
@@ -91,7 +82,7 @@ def _levels(arguments: List[bytes], width: int) -> Optional[List[int]]:
         return None
     while numbers and numbers[-1] == 0:
         numbers.pop()
-    good = 1 <= len(numbers) <= DEPTH and 0 not in numbers and sum(numbers) == width
+    good = 1 <= len(numbers) <= LEVELS and 0 not in numbers and sum(numbers) == width
     return numbers if good else None
 
 
@@ -192,7 +183,9 @@ def bind(job: Job, variables: List[Variable]) -> Bound:
     places = {variable.name: place for place, variable in enumerate(spanning)}
     numbers = [1 + variables.index(variable) for variable in spanning]
     tables = [[places[name] for name in table.variables] for table in job.tables]
-    return Bound(spanning, numbers, tables, by_name[job.tables[0].response], weights[0] if job.weighted else None)
+    said = {(depth.table, depth.variable): depth.level for depth in job.depths}
+    depths = [[said.get((number, name), LEVELS) for name in table.variables] for number, table in enumerate(job.tables, 1)]
+    return Bound(spanning, numbers, tables, depths, by_name[job.tables[0].response], weights[0] if job.weighted else None)
 
 
 class Tree:
@@ -221,6 +214,26 @@ class Tree:
             place = self.parents[place]
             found.append(place)
         return found
+
+
+class CutTree:
+    """The codes of a tree that a table has: those down to a level, by their places in the tree."""
+
+    def __init__(self, tree: Tree, level: int) -> None:
+        self.tree, self.level = tree, level
+        self.places = [place for place, depth in enumerate(tree.depths) if depth <= level]
+
+    def has(self, place: int) -> bool:
+        """Whether the code lies no deeper than the table goes."""
+        return self.tree.depths[place] <= self.level
+
+    def children(self, place: int) -> List[int]:
+        """The codes right below; a code on the last level has none."""
+        return self.tree.children[place] if self.tree.depths[place] < self.level else []
+
+    def above(self, place: int) -> List[int]:
+        """Of the place itself and all above it, those that the table has."""
+        return [at for at in self.tree.above(place) if self.has(at)]
 
 
 def read_codes(data: bytes, total: bytes, where: str) -> List[bytes]:
@@ -254,7 +267,7 @@ def read_hierarchy(data: bytes, variable: Variable, where: str) -> Tree:
             raise bad(number, "NoCode", "a lead has no code behind it")
         if leads >= len(path):
             raise bad(number, "Jump", "the line is more than one level deeper than the line before")
-        if leads >= DEPTH:
+        if leads >= LEVELS:
             raise bad(number, "TooDeep", "the code is deeper than nine levels")
         _listed(tree, code, number, bad)
         path[leads + 1:] = [tree.add(code, path[leads])]

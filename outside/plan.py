@@ -10,12 +10,12 @@ Best = Tuple[int, List[int]]
 
 
 class Subtable:
-    """A table cut down to one code with codes below it per variable, the parents, and these codes."""
+    """A table cut down to one code per variable that has codes below it in the table, the parents, and these codes."""
 
     def __init__(self, book: Book, table: int, parents: Tuple[int, ...]) -> None:
         self.book, self.table, self.parents = book, table, parents
         self.spans = book.bound.tables[table]
-        self.codes = [[parent] + book.trees[variable].children[parent] for variable, parent in zip(self.spans, parents)]
+        self.codes = [[parent] + cut.children(parent) for cut, parent in zip(book.cuts[table], parents)]
         self.numbers: Dict[Tuple[int, ...], int] = {}
         for places in product(*self.codes):
             self.numbers[places] = self._number(places)
@@ -68,7 +68,7 @@ def _subtables(book: Book) -> Iterator[Subtable]:
     """All subtables: by the summed depth of their parents, then by table, then by the parents' places."""
     found: List[Tuple[int, int, Tuple[int, ...]]] = []
     for table, spans in enumerate(book.bound.tables):
-        inner = [[place for place, below in enumerate(book.trees[variable].children) if below] for variable in spans]
+        inner = [[place for place in cut.places if cut.children(place)] for cut in book.cuts[table]]
         for parents in product(*inner):
             depth = sum(book.trees[variable].depths[parent] for variable, parent in zip(spans, parents))
             found.append((depth, table, parents))

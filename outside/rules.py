@@ -77,10 +77,11 @@ def read_prior(book: Book, prior: Prior, statements: Statements) -> None:
         if keyword not in FIELDS or len(fields) != len(spans) + 1 + FIELDS[keyword]:
             raise Unreadable(where, number, "BadShape", "the line has another number of fields, or no such keyword")
         name = [0] * len(book.trees)
-        for variable, code in zip(spans, fields):
-            if code not in book.trees[variable].places:
-                raise Unreadable(where, number, "UnknownCode", "the variable has no such code")
-            name[variable] = book.trees[variable].places[code]
+        for variable, cut, code in zip(spans, book.cuts[prior.table - 1], fields):
+            place = cut.tree.places.get(code)
+            if place is None or not cut.has(place):
+                raise Unreadable(where, number, "UnknownCode", "the table has no such code of the variable")
+            name[variable] = place
         numbers = _numbers(keyword, fields[len(spans) + 1:], book.bound.decimals)
         if numbers is None:
             raise Unreadable(where, number, "BadNumber", "a number isn't one, has too many decimals, or is out of range")
