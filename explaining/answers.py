@@ -22,7 +22,8 @@ class Asked(NamedTuple):
 
 
 class Said(NamedTuple):
-    """What is said: at most six lines, and the lines for a priori files that may follow."""
+    """What is said: at most six lines, after a release one more for each pair of variables that overlap, and the lines for a priori files
+    that may follow."""
 
     lines: List[str]
     rows: List[str]
@@ -41,11 +42,11 @@ def explained(asked: Asked) -> Said:
         lines, rows = of_job(job, asked, answer)
     except Unread as fault:
         lines, rows = [fault.text()], []
-    return Said(cut(lines), rows)
+    return Said(cut(lines, None if answer.startswith("released: ") else MOST), rows)
 
 
-def cut(lines: List[str]) -> List[str]:
-    return [" ".join(it.split("\n")).rstrip() for it in lines if it.strip()][:MOST]
+def cut(lines: List[str], most: Optional[int] = MOST) -> List[str]:
+    return [" ".join(it.split("\n")).rstrip() for it in lines if it.strip()][:most]
 
 
 def no_job(asked: Asked, answer: str, fault: Unread) -> List[str]:

@@ -352,6 +352,33 @@ def output(scan: Scanner) -> Output:
     return Output(number, name)
 
 
+class Depth(NamedTuple):
+    """What a line DEPTH says: the table, a variable that it spans, and the last level of its codes that the table shows."""
+
+    table: int
+    variable: bytes
+    level: int
+
+
+DEPTH_FORM = '<DEPTH> (2,"Region",1)'
+# No tree is deeper.
+MOST_LEVEL = 9
+
+
+def depth(scan: Scanner) -> Depth:
+    scan.needs(b"(", "An opening parenthesis is wanted here: %s." % DEPTH_FORM)
+    number = table_number(scan, DEPTH_FORM)
+    scan.needs(b",", "A comma is wanted between the number of the table and the variable: %s." % DEPTH_FORM)
+    variable = scan.quoted("a variable of the table", DEPTH_FORM)
+    scan.needs(b",", "A comma and the last level that the table shows are wanted after the variable: %s." % DEPTH_FORM)
+    level = scan.number("The last level that the table shows", 1, MOST_LEVEL)
+    if scan.peek() == b",":
+        raise scan.wrong("After the level comes the closing parenthesis: %s. Each variable has a line of its own." % DEPTH_FORM)
+    scan.needs(b")", "A closing parenthesis is wanted here: %s." % DEPTH_FORM)
+    scan.ends("Nothing may follow the parenthesis.")
+    return Depth(number, variable, level)
+
+
 # For each command its form as an example, and its reader.
 COMMANDS: Dict[str, Tuple[str, Callable[[Scanner], object]]] = {
     "OPENMICRODATA": ('<OPENMICRODATA> "firms.asc"', lambda it: file_alone(it, "the name of the microdata", '<OPENMICRODATA> "firms.asc"')),
@@ -367,4 +394,5 @@ COMMANDS: Dict[str, Tuple[str, Callable[[Scanner], object]]] = {
     "WRITETABLE": (OUTPUT_FORM, output),
     "CERTIFICATE": ('<CERTIFICATE> "table.cert"', lambda it: file_alone(it, "the name of the certificate", '<CERTIFICATE> "table.cert"')),
     "CONTRIBUTORS": ('<CONTRIBUTORS> "firms.extra"', lambda it: file_alone(it, "the name of the file", '<CONTRIBUTORS> "firms.extra"')),
+    "DEPTH": (DEPTH_FORM, depth),
 }

@@ -7,7 +7,7 @@ written anew from the manual (How cells are numbered, Rules in a job, Lines of a
 import heapq
 import itertools
 from fractions import Fraction
-from typing import Dict, List, NamedTuple, Optional, Sequence, Set, Tuple
+from typing import Dict, Iterator, List, NamedTuple, Optional, Sequence, Set, Tuple
 
 from explaining.jobs import Job
 from explaining.records import Microdata, Record, units_of
@@ -92,6 +92,7 @@ class Book:
         self.below = [it.children() for it in self.trees]
         at = {it.name: k for k, it in enumerate(self.variables)}
         self.tables = [[at[name] for name in table.variables if name in at] for _, table in job.tables()]
+        self.levels = [[job.level(t, self.variables[k].name) for k in spans] for t, spans in enumerate(self.tables, 1)]
         self.rows = [it for it in map(self.row_of, records) if it is not None]
         self.number_cells()
         self.tabulate()
@@ -106,7 +107,7 @@ class Book:
         self.number: Dict[Name, int] = {}
         self.within: List[List[int]] = []
         for t, spans in enumerate(self.tables):
-            for places in itertools.product(*[range(len(self.trees[k].codes)) for k in spans]):
+            for places in itertools.product(*self.places(t)):
                 name = self.name_at(spans, places)
                 if name not in self.number:
                     self.number[name] = len(self.names)
@@ -116,6 +117,14 @@ class Book:
                 if len(self.names) > 60000:
                     raise Unread(self.job.name, "its tables have more than 60,000 cells")
         self.cells = [Cell() for _ in self.names]
+
+    def places(self, table: int) -> List[List[int]]:
+        """For each variable of a table the places of the codes that the table shows."""
+        return [self.trees[k].within(level) for k, level in zip(self.tables[table], self.levels[table])]
+
+    def above(self, table: int, places: Sequence[int]) -> Iterator[Tuple[int, ...]]:
+        """The codes of a table that lie at or above some, one for each of its variables."""
+        return itertools.product(*[self.trees[k].up(place, level) for k, level, place in zip(self.tables[table], self.levels[table], places)])
 
     def name_at(self, spans: Sequence[int], places: Sequence[int]) -> Name:
         name = [0] * len(self.trees)
@@ -141,7 +150,7 @@ class Book:
             for leaf, rows in groups.items():
                 total = sum(self.rows[k].amount() for k in rows)
                 tops = heapq.nlargest(keep, [(self.rows[k].value, self.rows[k].weight) for k in rows])
-                for places in itertools.product(*[self.trees[s].up(place) for s, place in zip(spans, leaf)]):
+                for places in self.above(t, leaf):
                     cell = self.number[self.name_at(spans, places)]
                     if self.within[cell][0] == t:
                         it = self.cells[cell]
@@ -152,7 +161,7 @@ class Book:
     def cells_of(self, row: int) -> List[int]:
         """The cells in which a row falls (rows count from 1)."""
         places = self.rows[row - 1].places
-        found = {self.number[self.name_at(spans, at)] for spans in self.tables for at in itertools.product(*[self.trees[s].up(places[s]) for s in spans])}
+        found = {self.number[self.name_at(spans, at)] for t, spans in enumerate(self.tables) for at in self.above(t, [places[s] for s in spans])}
         return sorted(found)
 
     # Rules and a priori files.
@@ -172,8 +181,8 @@ class Book:
         return next((it.separator for _, it in self.job.priors() if it.table == statement.table), b",")
 
     def cell_of(self, statement: Statement) -> Optional[int]:
-        spans = self.tables[statement.table - 1]
-        if any(code not in self.trees[k].at for k, code in zip(spans, statement.codes)):
+        spans, levels = self.tables[statement.table - 1], self.levels[statement.table - 1]
+        if not all(self.trees[k].has(code, level) for k, level, code in zip(spans, levels, statement.codes)):
             return None
         return self.number[self.name_at(spans, [self.trees[k].at[code] for k, code in zip(spans, statement.codes)])]
 
@@ -232,7 +241,9 @@ class Book:
         """Each relation, in order: a cell and its parts, by cell and then by variable."""
         found: List[Relation] = []
         for cell, name in enumerate(self.names):
-            spanned: Set[int] = set().union(*[self.tables[t] for t in self.within[cell]])
+            spanned: Set[int] = set()
+            for t in self.within[cell]:
+                spanned.update(k for k, level in zip(self.tables[t], self.levels[t]) if self.trees[k].depths[name[k]] < level)
             for k in range(len(self.trees)):
                 if k in spanned and self.below[k][name[k]]:
                     found.append((cell, [self.number[name[:k] + (it,) + name[k + 1:]] for it in self.below[k][name[k]]]))

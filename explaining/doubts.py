@@ -9,6 +9,7 @@ from typing import Dict, List, Optional, Tuple
 
 from explaining.jobs import Job
 from explaining.metadata import Variable
+from explaining.overlaps import overlaps
 from explaining.records import Microdata, Record, is_skipped, units_of
 from explaining.texts import BLANKS, MARK, Unread, bytes_range, content, foreign, grouped, lines_of, shown, shown_name
 from explaining.trees import code_list, kind_of
@@ -17,13 +18,20 @@ from explaining.trees import code_list, kind_of
 FAR = 1000
 # So many bytes of microdata are looked at after each run, which takes some seconds; larger files are looked at by hand alone.
 MOST_AFTER_A_RUN = 10_000_000
+# So many doubts are said at most, besides those about variables that overlap, which are all said.
+MOST_DOUBTS = 6
 
 
 def explain(job: Job, answer: str, is_after_run: bool) -> List[str]:
     """The doubts about a release, by its line: after a run, or by hand."""
     data = Microdata(job)
+    return odd(data, job, answer, is_after_run)[:MOST_DOUBTS] + overlaps(data)
+
+
+def odd(data: Microdata, job: Job, answer: str, is_after_run: bool) -> List[str]:
+    """What looks odd in the records and in the files of codes."""
     if is_after_run and len(data.data) > MOST_AFTER_A_RUN:
-        return ["%s has %s bytes, so nothing was looked at that may be odd. To look: explain %s '%s'" % (
+        return ["%s has %s bytes, so nothing was looked at but whether variables overlap. To look: explain %s '%s'" % (
             shown_name(data.name), grouped(len(data.data)), shown_name(job.name), answer)]
     found = re.match(r"released: (\d+) records, (\d+) skipped", answer)
     if found and not int(found[1]):

@@ -3,7 +3,7 @@
 import re
 from typing import List, NamedTuple, Optional, Tuple
 
-from explaining.arguments import COMMANDS, Method, Output, Prior, Rule, Scanner, Table, Wrong
+from explaining.arguments import COMMANDS, MOST_LEVEL, Depth, Method, Output, Prior, Rule, Scanner, Table, Wrong
 from explaining.metadata import Metadata, Variable
 from explaining.texts import BLANKS, Unread, absent, bare, bytes_range, content, foreign, lines_of, listed, nearest, same_but_case, shown, shown_name
 
@@ -64,6 +64,18 @@ class Job:
 
     def outputs(self) -> List[Tuple[Line, Output]]:
         return [(line, it) for line, it in self.of("WRITETABLE") if isinstance(it, Output)]
+
+    def depths(self) -> List[Tuple[Line, Depth]]:
+        return [(line, it) for line, it in self.of("DEPTH") if isinstance(it, Depth)]
+
+    def depth_at(self, table: int, variable: bytes) -> Optional[Tuple[Line, Depth]]:
+        """The line that says down to which level a table, from 1, shows the codes of a variable, where there is one."""
+        return next((one for one in self.depths() if (one[1].table, one[1].variable) == (table, variable)), None)
+
+    def level(self, table: int, variable: bytes) -> int:
+        """The last level that a table, from 1, shows; where it shows all, the deepest that a tree can have."""
+        found = self.depth_at(table, variable)
+        return found[1].level if found else MOST_LEVEL
 
     def method(self) -> Method:
         return next((it for _, it in self.of("SUPPRESS") if isinstance(it, Method)), Method("MOD", 1))
@@ -129,7 +141,7 @@ def explain(job: Job, number: int, kind: str, words: List[str]) -> List[str]:
     if line is None:
         return ["%s has only %d lines now; has it changed since argus read it?" % (shown_name(job.name), len(job.lines))]
     said = {"BadLine": bad_line, "UnknownCommand": unknown_command, "BadValue": bad_value, "Twice": twice, "TooMany": too_many,
-            "OtherResponse": other_response, "NoSuchTable": no_such_table, "SameName": same_name, "NoSuchVariable": no_such_variable,
+            "OtherResponse": other_response, "NoSuchTable": no_such_table, "NotInTable": not_in_table, "SameName": same_name, "NoSuchVariable": no_such_variable,
             "NotSpanning": not_spanning, "NotNumeric": not_numeric, "NoWeight": no_weight}.get(kind)
     lines = said(job, line) if said else []
     if not lines:
@@ -220,13 +232,19 @@ def twice(job: Job, line: Line) -> List[str]:
     for other, value in job.said:
         if other.number >= line.number:
             break
-        if other.word != line.word:
+        if other.word != line.word or subject(mine) != subject(value):
             continue
-        if isinstance(mine, (Prior, Output)) and isinstance(value, (Prior, Output)) and mine.table != value.table:
-            continue
-        of = " for table %d" % mine.table if isinstance(mine, (Prior, Output)) else ""
+        of = " for table %d" % mine.table if isinstance(mine, (Prior, Output, Depth)) else ""
+        of += " and %s" % shown_name(mine.variable) if isinstance(mine, Depth) else ""
         return [head(job, line), "Line %d has <%s>%s already: %s" % (other.number, line.word, of, bare(other.raw)), "Delete one of the two."]
     return []
+
+
+def subject(value: object) -> Tuple[object, ...]:
+    """What a line is for, if its command may stand several times: a table; of DEPTH a table and a variable."""
+    if isinstance(value, Depth):
+        return value.table, value.variable
+    return (value.table,) if isinstance(value, (Prior, Output)) else ()
 
 
 def too_many(job: Job, line: Line) -> List[str]:
@@ -251,11 +269,34 @@ def other_response(job: Job, line: Line) -> List[str]:
 
 def no_such_table(job: Job, line: Line) -> List[str]:
     mine = next((it for at, it in job.said if at.number == line.number), None)
-    if not isinstance(mine, (Prior, Output)):
+    if not isinstance(mine, (Prior, Output, Depth)):
         return []
     many = len(job.tables())
     return [head(job, line), "It speaks of table %d; the job has %s. Tables count from 1, in the order of the SPECIFYTABLE lines."
             % (mine.table, "one table, which is 1" if many == 1 else "%d tables" % many)]
+
+
+def not_in_table(job: Job, line: Line) -> List[str]:
+    """A line DEPTH whose variable its table doesn't span: a name like it, or the tables that it spans."""
+    mine, tables = next((it for at, it in job.said if at.number == line.number), None), job.tables()
+    if not isinstance(mine, Depth) or not 1 <= mine.table <= len(tables):
+        return []
+    at, there = tables[mine.table - 1]
+    if mine.variable in there.variables:
+        return []
+    said = "Table %d (line %d) is spanned by %s, and not by %s" % (mine.table, at.number, listed(map(shown_name, there.variables)), shown_name(mine.variable) if mine.variable else "an empty name")
+    like = same_but_case(mine.variable, there.variables)
+    where = [str(k) for k, (_, it) in enumerate(tables, 1) if mine.variable in it.variables]
+    if like is not None:
+        said += ": large and small letters differ in %s" % shown_name(like)
+    elif mine.variable == there.response:
+        said += ", which is the response"
+    elif mine.variable.strip(BLANKS) in there.variables:
+        said += ": blanks inside the quotes count"
+    near = nearest(mine.variable.decode("latin-1"), [it.decode("latin-1") for it in there.variables]) if like is None and not where else None
+    said += ": is it %s?" % near if near and ":" not in said else "."
+    spans = "It spans table%s %s." % ("s" if len(where) > 1 else "", listed(where)) if where else "It spans no table of the job."
+    return [at_name(job, line, mine.variable), said, "%s A line DEPTH is for a variable of its own table: correct the number or the name, or delete the line." % spans]
 
 
 def written(job: Job) -> List[Tuple[Line, bytes]]:

@@ -117,13 +117,15 @@ def bad_shape(look: Look) -> List[str]:
 
 
 def unknown_code(look: Look) -> List[str]:
-    """The first code that its variable lacks."""
+    """The first code that its variable lacks, or that lies deeper than the table goes."""
     book = Book(look.job)
-    spans = book.tables[look.prior.table - 1]
+    spans, levels = book.tables[look.prior.table - 1], book.levels[look.prior.table - 1]
     for position, k in enumerate(spans):
         field, tree, variable = look.fields[position], book.trees[k], book.variables[k]
-        if field.text in tree.at:
+        if tree.has(field.text, levels[position]):
             continue
+        if field.text in tree.at:
+            return too_deep(look, book, field, k)
         from_other = [book.variables[j] for j in spans if field.text in book.trees[j].at and j != k]
         first = "%s has no such code" % shown_name(variable.name)
         if from_other:
@@ -136,6 +138,20 @@ def unknown_code(look: Look) -> List[str]:
         total = "; its total is %s" % shown(tree.codes[0])
         return [look.head(field), "%s%s, and codes %s." % (first, total, listed([shown(it) for it in tree.codes[1:]], 8))]
     return []
+
+
+def too_deep(look: Look, book: Book, field: Field, k: int) -> List[str]:
+    """A code below the last level that the table shows of its variable."""
+    table, tree, variable = look.prior.table, book.trees[k], book.variables[k]
+    place = tree.at[field.text]
+    found = look.job.depth_at(table, variable.name)
+    level = look.job.level(table, variable.name)
+    where = " (%s)" % look.job.place(found[0].number) if found else ""
+    above = tree.codes[tree.up(place, level)[0]]
+    others = [str(t) for t, (spans, cuts) in enumerate(zip(book.tables, book.levels), 1) if any(it == k and cut >= tree.depths[place] for it, cut in zip(spans, cuts))]
+    rest = "; or put the line into the a priori file of table %s, which shows it" % " or ".join(others) if others else ""
+    return [look.head(field), "That is a code of level %d, and table %d shows %s down to level %d%s." % (tree.depths[place], table, shown_name(variable.name), level, where),
+            "Write the table's code above it, %s%s." % (shown(above), rest)]
 
 
 def bad_number(look: Look) -> List[str]:

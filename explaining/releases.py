@@ -10,7 +10,7 @@ from explaining.cells import Book, digits
 from explaining.jobs import Job, written
 from explaining.records import Microdata
 from explaining.texts import BLANKS, Unread, absent, bare, content, grouped, lines_of, listed, others_named, shown, shown_name
-from explaining.trees import tree_of
+from explaining.trees import Tree, tree_of
 
 READ = {
     "Version": "Its first line isn't `%s`, perhaps because an editor added a CR or a byte-order mark.",
@@ -146,7 +146,7 @@ def expected_line(book: Book, table: int, line: int) -> Optional[Tuple[List[byte
     spans = book.tables[table]
     if line == 1:
         return [book.variables[k].name for k in spans] + [book.response.name], None
-    for k, places in enumerate(itertools.product(*[range(len(book.trees[s].codes)) for s in spans])):
+    for k, places in enumerate(itertools.product(*book.places(table))):
         if k == line - 2:
             return [book.trees[s].codes[place] for s, place in zip(spans, places)], book.number[book.name_at(spans, places)]
     return None
@@ -241,11 +241,12 @@ def too_many_cells(job: Job, table: int) -> List[str]:
     """What to say of `refused: table T: TooManyCells`: how many cells each table has, by its codes."""
     data = Microdata(job)
     records = list(data.rows())
-    many: Dict[bytes, int] = {it.name: len(tree_of(it, {it.field(r.raw).strip(BLANKS) for r in records}).codes) for it in data.names.spanning}
+    trees: Dict[bytes, Tree] = {it.name: tree_of(it, {it.field(r.raw).strip(BLANKS) for r in records}) for it in data.names.spanning}
     lines = []
-    for t, (line, it) in enumerate(job.tables()[:table]):
+    for t, (line, it) in enumerate(job.tables()[:table], 1):
+        many = [(len(trees[name].within(job.level(t, name))) if name in trees else 1, name) for name in it.variables]
         product = 1
-        for name in it.variables:
-            product *= many.get(name, 1)
-        lines.append("%s: table %d has %s cells (%s)." % (job.place(line.number), t + 1, grouped(product), " by ".join("%s %s" % (grouped(many.get(n, 1)), shown_name(n)) for n in it.variables)))
+        for count, _ in many:
+            product *= count
+        lines.append("%s: table %d has %s cells (%s)." % (job.place(line.number), t, grouped(product), " by ".join("%s %s" % (grouped(count), shown_name(name)) for count, name in many)))
     return lines[-3:] + ["A job has 60,000 cells at most, shared ones counted once. Take coarser codes, fewer variables in one table, or a table fewer."]

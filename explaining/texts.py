@@ -15,6 +15,7 @@ MARK = b"\xef\xbb\xbf"
 CURLED = ("\u201c", "\u201d", "\u201e", "\u201f", "\u00ab", "\u00bb", "\u2018", "\u2019")
 CURLED_BYTES = tuple(it.encode() for it in CURLED) + (b"\x93", b"\x94", b"\x84", b"\xab", b"\xbb", b"\x91", b"\x92")
 LONGEST_FILE = 268435456
+LONGEST_COMPARED = 255
 
 
 class Unread(Exception):
@@ -128,8 +129,10 @@ def words_of(line: bytes, at: int = 0) -> List[Word]:
 
 
 def nearest(word: str, known: Sequence[str]) -> Optional[str]:
-    """The known word that is most like a word, if any is."""
-    found = difflib.get_close_matches(word.upper(), [it.upper() for it in known], 1, 0.7)
+    """The known word that is most like a word, if any is. Very long ones aren't compared, which would take long."""
+    if len(word) > LONGEST_COMPARED:
+        return None
+    found = difflib.get_close_matches(word.upper(), [it.upper() for it in known if len(it) <= LONGEST_COMPARED], 1, 0.7)
     return next((it for it in known if found and it.upper() == found[0]), None)
 
 

@@ -12,7 +12,7 @@ class Tree:
     """A variable's codes in preorder, each with the place of its parent; place 0 is the total."""
 
     def __init__(self, total: bytes):
-        self.codes, self.parents, self.at = [total], [-1], {total: 0}
+        self.codes, self.parents, self.depths, self.at = [total], [-1], [0], {total: 0}
 
     def add(self, code: bytes, parent: int) -> int:
         """Adds a code; one that is there stays where it is."""
@@ -20,7 +20,16 @@ class Tree:
             self.at[code] = len(self.codes)
             self.codes.append(code)
             self.parents.append(parent)
+            self.depths.append(self.depths[parent] + 1)
         return self.at[code]
+
+    def has(self, code: bytes, level: int) -> bool:
+        """Whether a code is one of the tree, and lies no deeper than a level."""
+        return code in self.at and self.depths[self.at[code]] <= level
+
+    def within(self, level: int) -> List[int]:
+        """The places down to a level; the total has level 0."""
+        return [place for place, it in enumerate(self.depths) if it <= level]
 
     def children(self) -> List[List[int]]:
         found: List[List[int]] = [[] for _ in self.codes]
@@ -29,12 +38,12 @@ class Tree:
                 found[parent].append(place)
         return found
 
-    def up(self, place: int) -> List[int]:
-        """The place itself, its parent, and so on to the total."""
+    def up(self, place: int, level: int = MOST_DEPTH) -> List[int]:
+        """The place itself, its parent, and so on to the total, as far as they lie no deeper than a level."""
         found = [place]
         while self.parents[found[-1]] >= 0:
             found.append(self.parents[found[-1]])
-        return found
+        return found[max(len(found) - 1 - level, 0):]
 
 
 class Listing:
@@ -45,11 +54,11 @@ class Listing:
         self.raw = lines_of(self.data)
         self.rows: List[Tuple[int, int, bytes]] = []
         for k, line in enumerate(self.raw):
-            depth, rest = 0, line
-            while lead and rest.startswith(lead):
-                depth, rest = depth + 1, rest[len(lead):]
+            depth = 0
+            while lead and line.startswith(lead, depth * len(lead)):
+                depth += 1
             if line.strip(BLANKS):
-                self.rows.append((k + 1, depth, rest.strip(BLANKS)))
+                self.rows.append((k + 1, depth, line[depth * len(lead):].strip(BLANKS)))
 
 
 def from_file(variable: Variable) -> Tree:

@@ -54,8 +54,9 @@ def where(book: Book, cell: int) -> List[str]:
 def fewer(book: Book) -> str:
     """What makes fewer hidden cells: the variable with the most codes, fewer variables, fewer tables."""
     table = largest(book)
-    k = max(book.tables[table], key=lambda it: len(book.trees[it].codes))
-    said = ["coarser codes, above all of %s, which has %s" % (shown_name(book.variables[k].name), grouped(len(book.trees[k].codes) - 1))]
+    many = [len(it) for it in book.places(table)]
+    at = max(range(len(many)), key=many.__getitem__)
+    said = ["coarser codes, above all of %s, which has %s" % (shown_name(book.variables[book.tables[table][at]].name), grouped(many[at] - 1))]
     if len(book.tables[table]) > 2:
         said.append("%d variables in that table in place of %d" % (len(book.tables[table]) - 1, len(book.tables[table])))
     if len(book.tables) > 1:

@@ -37,6 +37,8 @@ class Job:
 
     def __init__(self, name):
         self.name, self.given, self.tables, self.outputs, self.priors = name, {}, [], {}, []
+        # By table and variable the last level that the table shows, where the job says one.
+        self.levels = {}
         for line in lines_of(content(name)):
             found = re.match(r"[ \t]*<([^<> \t]+)>(.*)", line)
             if found and not line.lstrip(" \t").startswith("//"):
@@ -46,8 +48,8 @@ class Job:
             raise Stop("%s isn't a whole job: see what argus says to it" % name)
         self.method = re.sub(r"\s", "", self.given["SUPPRESS"].upper())
         self.rules = [re.sub(r"\s", "", it.upper()) for it in self.given.get("SAFETYRULE", "").split("|")]
-        rounding = re.fullmatch(r"RND\(0*(\d+)\)", self.method)
-        self.base = int(rounding[1]) if rounding else None
+        rounding = re.fullmatch(r"RND\(([0-9]+)\)", self.method)
+        self.base = int(rounding[1].lstrip("0")[:20] or "0") if rounding else None
 
     def take(self, word, said):
         if word == "SPECIFYTABLE":
@@ -61,11 +63,19 @@ class Job:
                 self.outputs[int(found[1])] = found[2]
         elif word == "APRIORI":
             self.priors += quoted(said)[:1]
+        elif word == "DEPTH":
+            found = re.match(r'\([ \t]*0*([0-9]{1,9})[ \t]*,[ \t]*"([^"]*)"[ \t]*,[ \t]*0*([0-9]{1,9})[ \t]*\)', said)
+            if found:
+                self.levels[int(found[1]), found[2]] = int(found[3])
         else:
             self.given[word] = said
 
     def file(self, word):
         return (quoted(self.given.get(word, "")) or [None])[0]
+
+    def levels_of(self, table):
+        """The last level that a table, from 1, shows of each variable for which the job says one."""
+        return {variable: level for (number, variable), level in self.levels.items() if number == table}
 
     def is_weighted(self):
         return "WGT(1)" in self.rules
@@ -137,9 +147,9 @@ class Metadata:
         for name in self.keyword(variable, "HIERCODELIST")[:1]:
             for line in lines_of(content(name)):
                 depth = 0
-                while lead and line.startswith(lead):
-                    line, depth = line[len(lead):], depth + 1
-                code = line.strip(" \t")
+                while lead and line.startswith(lead, depth * len(lead)):
+                    depth += 1
+                code = line[depth * len(lead):].strip(" \t")
                 if code:
                     above = above[: depth + 1]
                     found.setdefault(code, above[-1])

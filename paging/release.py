@@ -22,7 +22,7 @@ class Release:
         self.notes, argus = [], Argus(program)
         if is_checked:
             self.judge(argus)
-        tables = [Table(k + 1, self.job.outputs[k + 1], *it) for k, it in enumerate(self.job.tables)]
+        tables = [Table(k, self.job.outputs[k], *it, self.job.levels_of(k)) for k, it in enumerate(self.job.tables, 1)]
         self.book = Book(tables, self.metadata)
         self.amounts = Amounts(self.decimals())
         self.hidden = [cell for cell, text in enumerate(self.book.text) if text == "x"]

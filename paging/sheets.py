@@ -57,7 +57,7 @@ class Sheets:
         others = [k for k in range(len(table.variables)) if k not in (down, across)]
         cells = [self.book.at(table, it) for it in table.shown]
         hidden = [it for it in cells if self.book.text[it] == "x"]
-        spans = some(table.variables)
+        spans = some(table.spans())
         rows = len(table.codes[down])
         kind = "table" + " own" * (rows > ROWS_BESIDE)
         lines = ['<section class="%s" data-table="%d" aria-labelledby="table%d"><h2 id="table%d">%s by %s</h2>' % (
@@ -87,7 +87,7 @@ class Sheets:
         at = [str(table.codes[k].index(code)) for k, code in zip(others, sheet)]
         name = " · ".join("%s %s" % (table.variables[k], code) for k, code in zip(others, sheet))
         lines = ['<div class="scroll sheet" data-sheet="%s"><table class="cells" role="grid"%s aria-label="%s">' % (
-            " ".join(at), pieces, safe("%s by %s" % (table.response, some(table.variables)) + (", " + name if name else "")))]
+            " ".join(at), pieces, safe("%s by %s" % (table.response, some(table.spans())) + (", " + name if name else "")))]
         if name:
             lines.append("<caption>%s</caption>" % safe(name))
         columns = table.codes[across] if across is not None else [None]
@@ -95,7 +95,7 @@ class Sheets:
         if across is not None:
             corner = '<span class="down">%s</span><span class="across">%s</span>' % (corner, safe(table.variables[across]))
         lines.append('<thead><tr role="row"><th class="corner" scope="col">%s</th>%s</tr></thead><tbody>' % (corner, "".join(
-            '<th scope="col">%s</th>' % safe(table.response) if code is None else self.heading(table.variables[across], code, "col")
+            '<th scope="col">%s</th>' % safe(table.response) if code is None else self.heading(table, across, code, "col")
             for code in columns)))
         for code in table.codes[down]:
             row = []
@@ -107,7 +107,7 @@ class Sheets:
                 row.append(self.entry(table, self.book.at(table, place)))
             variable = table.variables[down]
             lines.append('<tr role="row" class="d%d">%s%s</tr>' % (
-                min(self.book.depth(variable, code), 9), self.heading(variable, code, "row"), "".join(row)))
+                min(self.book.depth(variable, code), 9), self.heading(table, down, code, "row"), "".join(row)))
         return "\n".join([*lines, "</tbody></table></div>"])
 
     def pieces(self, table, down, across):
@@ -126,13 +126,14 @@ class Sheets:
     def words_of_code(self, variable, code):
         return [code, *self.labels.get(variable, {}).get(code, "").split()]
 
-    def heading(self, variable, code, scope):
-        codes = self.book.codes[variable]
+    def heading(self, table, k, code, scope):
+        """The head of a row or a column: its code, and which row or column of the table it is below."""
+        variable, codes = table.variables[k], table.codes[k]
         depth = self.book.depth(variable, code)
         above = self.book.parents[variable][code]
         parent = ' data-parent="%d"' % codes.index(above) if above is not None else ""
         fold = ""
-        if depth > 0 and code in self.book.inner(variable):
+        if depth > 0 and code in self.book.inner(variable, table):
             fold = '<button type="button" class="fold" aria-expanded="true" aria-label="%s"></button>' % safe("unfold or fold " + code)
         return '<th scope="%s" role="%sheader" class="d%d"%s>%s%s<span class="below"></span></th>' % (
             scope, "column" if scope == "col" else "row", min(depth, 9), parent, fold, self.labelled(variable, code))

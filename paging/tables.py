@@ -3,7 +3,7 @@
 import csv
 import io
 import re
-from typing import Optional, Sequence, Tuple
+from typing import Iterable, List, Optional, Sequence, Set, Tuple
 
 from paging.files import Stop, content
 
@@ -12,10 +12,11 @@ Name = Tuple[str, ...]
 
 
 class Table:
-    """A released table as its file has it: the codes of each variable in order, and a text for each place."""
+    """A released table as its file has it: the codes of each variable in order, and a text for each place. Of some variables it may show
+    the codes down to a level alone."""
 
-    def __init__(self, number, name, variables, response):
-        self.number, self.name = number, name
+    def __init__(self, number, name, variables, response, levels=None):
+        self.number, self.name, self.levels = number, name, levels or {}
         try:
             rows = list(csv.reader(io.StringIO(content(name), newline="")))
         except csv.Error as fault:
@@ -35,27 +36,41 @@ class Table:
         if count != len(rows) - 1 or count != len(self.shown):
             raise Stop("table %d (%s) isn't whole" % (number, name))
 
+    def spans(self) -> List[str]:
+        """The names of the variables, with the last level where the job says one."""
+        return ["%s (to level %d)" % (it, self.levels[it]) if it in self.levels else it for it in self.variables]
+
 
 class Book:
     """The cells of all tables, numbered as argus numbers them."""
 
     def __init__(self, tables, metadata):
-        self.tables, self.codes, self.parents = tables, {}, {}
+        self.tables, self.codes, self.parents, self.inners = tables, {}, {}, {}
         for table in tables:
             for variable, codes in zip(table.variables, table.codes):
-                if self.codes.setdefault(variable, codes) != codes:
-                    raise Stop("the tables have other codes of %s" % variable)
+                # The table that goes deepest has all codes that the others have.
+                if len(codes) > len(self.codes.setdefault(variable, codes)):
+                    self.codes[variable] = codes
         order = [it for it in metadata.variables if it in self.codes] if metadata else list(self.codes)
         self.variables = order + [it for it in self.codes if it not in order]
         for variable in self.variables:
             codes = self.codes[variable]
             flat = {code: codes[0] if code != codes[0] else None for code in codes}
             self.parents[variable] = metadata.parents(variable, codes) if metadata else flat
+        for table in tables:
+            self.check_codes(table)
         self.names, self.number, self.within, self.text = [], {}, [], []
         for table in tables:
             self.add(table)
         said = [code for variable in self.variables for code in self.codes[variable][1:]]
         self.is_ambiguous = len(said) != len(set(said))
+
+    def check_codes(self, table: Table) -> None:
+        """A table has the codes that its deepest fellow has, down to its own level."""
+        for variable, codes in zip(table.variables, table.codes):
+            level = table.levels.get(variable)
+            if codes != [it for it in self.codes[variable] if level is None or self.depth(variable, it) <= level]:
+                raise Stop("the tables have other codes of %s" % variable)
 
     def add(self, table: Table) -> None:
         for place, text in table.shown.items():
@@ -80,14 +95,26 @@ class Book:
         return 0 if above is None else 1 + self.depth(variable, above)
 
     def is_lowest(self, cell: int, table: Table) -> bool:
-        """Whether the cell has codes of the lowest level for each of the table's variables."""
+        """Whether the cell has codes of the table's lowest level for each of its variables."""
         name = dict(zip(self.variables, self.names[cell]))
-        return all(name[it] not in self.inner(it) for it in table.variables)
+        return all(name[it] not in self.inner(it, table) for it in table.variables)
 
-    def inner(self, variable):
-        if not hasattr(self, "inners"):
-            self.inners = {it: set(self.parents[it].values()) for it in self.variables}
-        return self.inners[variable]
+    def inner(self, variable: str, table: Optional[Table] = None) -> Set[Optional[str]]:
+        """The codes of a variable that have others below them, in a table or in all of them."""
+        key = variable, table.number if table else 0
+        if key not in self.inners:
+            codes = table.codes[table.variables.index(variable)] if table else self.codes[variable]
+            self.inners[key] = {self.parents[variable][it] for it in codes}
+        return self.inners[key]
+
+    def parent_of(self, variable: str, cells: Iterable[int]) -> Optional[str]:
+        """The code below which some cells lie beside each other: the parent of two codes, or that of them which is the other's parent."""
+        k = self.variables.index(variable)
+        found = sorted({self.names[it][k] for it in cells})
+        above = {self.parents[variable][it] for it in found}
+        inside = [it for it in found if it in above]
+        left = inside or sorted(it for it in above if it is not None)
+        return left[0] if len(left) == 1 and len(found) == 2 else None
 
     def called(self, cell: int, is_full: bool = False) -> str:
         """A cell in words: its codes but for the totals; with the names of their variables where codes alone could be mixed up."""

@@ -68,7 +68,7 @@ class Page(Summary, Sheets, Facts):
 
     def title(self):
         tables = self.book.tables
-        spans = [some(it.variables) for it in tables]
+        spans = [some(it.spans()) for it in tables]
         return "%s by %s" % (tables[0].response, "; by ".join(spans[:3]) + ("; and %d more tables" % (len(spans) - 3) if len(spans) > 3 else ""))
 
     def banner(self):

@@ -57,9 +57,9 @@ class Words:
         by, _, number = self.release.came_by(cell).partition(" ")
         certificate = self.release.certificate
         if by == "step" and int(number) <= len(certificate.steps):
-            table, places, subject, corners = certificate.steps[int(number) - 1]
+            table, _, subject, corners = certificate.steps[int(number) - 1]
             others = [self.cell(it) for it in corners if it not in (cell, subject)]
-            where = self.subtable(table, places)
+            where = self.subtable(table, [subject, *corners])
             beside = ", beside %s" % some(others) if others else ""
             return "Step %s of the plan hid it%s, as the cheapest way to open %s in table %d%s." % (
                 number, beside, self.cell(subject), table, where)
@@ -69,13 +69,15 @@ class Words:
                 number, self.cell(subject), upwards(side))
         return "It was hidden against a contributor who knows a figure of their own."
 
-    def subtable(self, table, places):
-        if not 0 < table <= len(self.book.tables):
+    def subtable(self, table, cells):
+        """The codes below which a step's cells lie in a table. (Its certificate has their numbers, which count codes that no table may show.)"""
+        if not 0 < table <= len(self.book.tables) or any(it >= len(self.book.names) for it in cells):
             return ""
-        found = self.book.tables[table - 1]
-        if any(k >= len(codes) for k, codes in zip(places, found.codes)):
+        variables = self.book.tables[table - 1].variables
+        codes = [self.book.parent_of(it, cells) for it in variables]
+        if None in codes:
             return ""
-        said = ["%s %s" % (v, codes[k]) for v, codes, k in zip(found.variables, found.codes, places)]
+        said = ["%s %s" % it for it in zip(variables, codes)]
         return ", below " + safe(" · ".join(said))
 
     def need(self, cell):

@@ -25,7 +25,7 @@ csv.field_size_limit(LONGEST_FIELD)
 class Source:
     """A CSV as it stands on disk."""
 
-    def __init__(self, path: str, encoding: str, separator: Optional[str], wanted: Sequence[str]) -> None:
+    def __init__(self, path: str, encoding: str, separator: Optional[str], wanted: Sequence[Sequence[str]]) -> None:
         self.path, self.name, self.encoding = path, shown(os.path.basename(path), 80), encoding
         self.marked, self.lead, head = self.look()
         self.separator = separator or self.told_by(head, wanted)
@@ -55,14 +55,14 @@ class Source:
             front = front[6:] if front[5:6] == "\n" else front[5:].lstrip("\r\n")
         return marked, lead, first_row(front)
 
-    def told_by(self, head: str, wanted: Sequence[str]) -> str:
-        """The separator that the header has outside quotes; of several, the one that gives the names that the command has."""
+    def told_by(self, head: str, wanted: Sequence[Sequence[str]]) -> str:
+        """The separator that the header has outside quotes; of several, the one that gives a name of each column that the command has."""
         if self.lead:
             return self.sep_line
         outside = "".join(head.split('"')[::2])
         there = [it for it in SEPARATORS if it in outside]
         if len(there) > 1:
-            fitting = [it for it in there if set(wanted) <= self.split(head, it)]
+            fitting = [it for it in there if all(self.split(head, it).intersection(names) for names in wanted)]
             there = fitting if len(fitting) == 1 else there
         if len(there) != 1:
             what = "the header has " + (" and ".join(SEPARATORS[it] for it in there) if there else "no comma, semicolon or tab: " + (shown(head) or "it is empty"))
@@ -164,7 +164,7 @@ class Source:
             if wanted and wanted in names:
                 return list(names).index(wanted)
         there = ", ".join(shown(it) for it in self.names if it)
-        parts = wanted.split(",")
+        parts = [name if name in made or name in self.names else name.partition(":")[0] for name in wanted.split(",")]
         do = "Give --by once for each column. " if len(parts) > 1 and set(parts) <= {*self.names, *made} else ""
         raise self.refuse("there is no column %s" % shown(wanted), do + "The header has " + there, self.head_line)
 

@@ -36,6 +36,8 @@ class Plan(NamedTuple):
     certificate: str
     contributors: str
     is_guarded: bool
+    # For a table, from 1, and a variable of it the last level that the table shows, where it doesn't show all.
+    depths: Sequence[Tuple[int, str, int]] = ()
 
 
 def called(text: str) -> Optional[Tuple[str, List[int]]]:
@@ -102,7 +104,7 @@ def job_text(plan: Plan) -> str:
     for number, name in enumerate(plan.outputs, 1):
         lines += ["", "// The file of table %d, for publication." % number, '<WRITETABLE> (%d,"%s")' % (number, name)]
     lines += ["", "// The file of the certificate. It gives true values away: keep it inside the office.", '<CERTIFICATE> "%s"' % plan.certificate]
-    return "".join(it + "\n" for it in lines + contributor_lines(plan))
+    return "".join(it + "\n" for it in lines + contributor_lines(plan) + depth_lines(plan))
 
 
 def rule_lines(plan: Plan) -> List[str]:
@@ -121,3 +123,12 @@ def contributor_lines(plan: Plan) -> List[str]:
         return []
     return ["", "// If a figure may come from a single firm, take the slashes off: then firms that stand alone in a cell are kept out too.",
             '// <CONTRIBUTORS> "%s"' % plan.contributors]
+
+
+def depth_lines(plan: Plan) -> List[str]:
+    """A line <DEPTH> for each variable that a table doesn't show with all its levels."""
+    lines: List[str] = []
+    for number, name, level in plan.depths:
+        lines += ["", "// Table %d has the codes of %s down to level %d alone; level 1 is right below the total." % (number, name, level)]
+        lines += ['<DEPTH> (%d,"%s",%d)' % (number, name, level)]
+    return lines

@@ -10,11 +10,12 @@ from typing import Dict, List, Optional, Sequence, Set, Tuple
 from starting.amounts import Numbers, written
 from starting.compare import Comparison, Wanted
 from starting.csv_file import Records, Source
+from starting.depths import Spanning, cells_of, depth_line, spanning
 from starting.job import EXAMPLE_RULES, Plan, check_method, check_rules, job_text
 from starting.layout import Layout, code_field, number_field
 from starting.names import names_for, plain
 from starting.refusals import Difference, Refusal, counted, shown
-from starting.summary import MOST_CELLS, blanks_dropped, cells_of, code_line, how_written, left_out, next_commands, number_line, renamed
+from starting.summary import MOST_CELLS, blanks_dropped, code_line, how_written, left_out, next_commands, number_line, renamed
 from starting.trees import Tree, Variable
 from starting.words import HELP, USAGE, Usage, Words, levels_of
 
@@ -54,7 +55,8 @@ class Making:
             raise Usage("%s has the columns %s. Say which one is summed (--value) and which ones span the table (--by)" % (self.source.name, names))
         self.value = self.column(words.one["value"])
         self.weight = self.column(words.one["weight"]) if "weight" in words.one else None
-        self.tables = [[self.column(name) for name in table] for table in words.tables()]
+        self.shapes = [[spanning(self.source, self.made, word) for word in table] for table in words.tables()]
+        self.tables = [[it.column for it in table] for table in self.shapes]
         self.spanning = sorted({it for table in self.tables for it in table})
         self.check_tables()
         self.levels = {self.column(name): levels_of(text, name) for name, text in words.pairs("levels")}
@@ -131,8 +133,7 @@ class Making:
         self.kept = [it is not None for it in self.units]
         self.variables = [Variable(self.source, self.records, it, self.kept, self.missing, self.totals.get(it, "Total")) for it in self.spanning]
         self.trees = [self.tree(it) for it in self.variables]
-        counts = [it.count for it in self.trees]
-        self.cells = cells_of([[self.spanning.index(it) for it in table] for table in self.tables], counts)
+        self.cells = cells_of([[(self.spanning.index(it.column), it.last()) for it in table] for table in self.shapes], self.trees)
         if self.cells > MOST_CELLS:
             raise self.source.refuse("the tables have {:,} cells, and argus takes {:,}".format(self.cells, MOST_CELLS), "Take fewer variables in a table, or columns with fewer codes")
 
@@ -188,7 +189,12 @@ class Making:
         tables = [[names[it] for it in table] for table in self.tables]
         priors = [(table, file_name(os.path.relpath(path, self.out))) for table, path in self.priors()]
         return Plan(self.source.name, stem + ".asc", stem + ".rda", tables, names[self.value], self.rules, "rule" not in one, priors, one.get("cost", "VALUE").upper(),
-                    one.get("steps", ""), one.get("nodes", ""), self.method, self.outputs, stem + ".cert", stem + ".extra", "contributors" in self.words.flags)
+                    one.get("steps", ""), one.get("nodes", ""), self.method, self.outputs, stem + ".cert", stem + ".extra", "contributors" in self.words.flags,
+                    [(number, names[it.column], it.last()) for number, it in self.cut()])
+
+    def cut(self) -> List[Tuple[int, Spanning]]:
+        """The variables that a table shows down to a level, with the number of the table."""
+        return [(number, it) for number, table in enumerate(self.shapes, 1) for it in table if it.level is not None]
 
     def write(self, folder: str) -> List[str]:
         """Writes all files into a folder of their own; codes are written as their bytes. Their names."""
@@ -224,6 +230,7 @@ class Making:
         skipped = len(self.kept) - kept
         lines = ["%s: %s; %s" % (self.source.name, counted(len(self.kept), "record"), how_written(self.source, self.marks))]
         lines += ["  %s: %s" % (self.made[it.column], code_line(it, tree)) for it, tree in zip(self.variables, self.trees)]
+        lines += [depth_line(number, self.made[it.column], it, self.trees[self.spanning.index(it.column)]) for number, it in self.cut()]
         if self.weight is not None:
             lines.append("  %s: %s" % (self.made[self.weight], number_line(self.weights, self.weight_decimals)))
         lines.append("  %s: %s" % (self.made[self.value], number_line(self.units, self.decimals) + self.weighted()))

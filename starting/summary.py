@@ -2,8 +2,7 @@
 
 import os
 import shlex
-from itertools import combinations
-from typing import List, Sequence, Set, Tuple
+from typing import List, Sequence, Set
 
 from starting.amounts import written
 from starting.csv_file import SEPARATORS, Records, Source
@@ -12,22 +11,6 @@ from starting.trees import Tree, Variable
 
 MOST_CELLS = 60000
 PLAIN_MARKS = {",": "comma", ".": "point", " ": "blank", "'": "apostrophe", "\u2019": "apostrophe", "\u00a0": "no-break blank", "\u202f": "narrow blank", "\u2009": "thin blank"}
-
-
-def cells_of(tables: Sequence[Sequence[int]], counts: Sequence[int]) -> int:
-    """How many cells the tables have, each shared one once. counts are the codes of each variable besides the total: a cell has such a
-    code for some variables of a table, and the total for all others."""
-    kinds: Set[Tuple[int, ...]] = set()
-    for table in tables:
-        for size in range(len(table) + 1):
-            kinds.update(combinations(sorted(table), size))
-    found = 0
-    for kind in kinds:
-        product = 1
-        for variable in kind:
-            product *= counts[variable]
-        found += product
-    return found
 
 
 def code_line(variable: Variable, tree: Tree) -> str:

@@ -17,14 +17,37 @@ LEADS = ("@", "#", "~", "^", "%", "@@", "@#", "@~", "@#~^%")
 
 
 class Tree(NamedTuple):
-    """What the metadata say of a variable's tree, and how many codes it has besides the total."""
+    """What the metadata say of a variable's tree, and how many codes besides the total each level of it has, from the first."""
 
-    count: int
+    sizes: Sequence[int]
     levels: Sequence[int] = ()
     lead: str = "@"
     # The hierarchy file as it is named, and its text where start has to write it.
     file: str = ""
     text: Optional[str] = None
+
+    @property
+    def count(self) -> int:
+        """How many codes it has besides the total."""
+        return sum(self.sizes)
+
+    def within(self, last: int) -> int:
+        """How many of them lie no deeper than a level."""
+        return sum(self.sizes[:last])
+
+
+def depth_in(parents: Dict[str, str], code: str) -> int:
+    """How many steps it is from a code up to the total, which is the parent ""."""
+    depth = 1
+    while parents[code]:
+        code, depth = parents[code], depth + 1
+    return depth
+
+
+def sizes_of(depths: Iterable[int]) -> List[int]:
+    """How many codes each level has, by the levels of the codes."""
+    counts = Counter(depths)
+    return [counts[it] for it in range(1, max(counts, default=0) + 1)]
 
 
 class Variable:
@@ -72,7 +95,7 @@ class Variable:
 
     def flat(self) -> Tree:
         """All codes right below the total."""
-        return Tree(len(self.counts))
+        return Tree([len(self.counts)])
 
     def too_many(self, count: int) -> None:
         """Refuses more codes than argus takes, parts of codes and listed codes among them."""
@@ -97,7 +120,7 @@ class Variable:
         if inner:
             raise self.refuse(inner, "%s has codes below it, so its value would belong to none of these", "Give the record a code of the lowest level")
         self.too_many(len(nodes | above))
-        return Tree(len(nodes | above), tuple(widths))
+        return Tree(sizes_of(1 + sum(end < len(code) for end in ends) for code in nodes | above), tuple(widths))
 
     def fit_levels(self, width: int) -> None:
         """Refuses codes that are longer than the levels together, or have a blank inside."""
@@ -121,11 +144,11 @@ class Variable:
         is_fit = not marked and there.isascii() and there.isprintable() and '"' not in there and len(there) <= 255
         return Tree(self.with_missing(parents), lead=lead, file=there if is_fit else "", text=None if is_fit else text)
 
-    def with_missing(self, parents: Dict[str, str]) -> int:
-        """How many codes the tree has with those that mean no answer."""
-        count = len(set(parents) | set(self.missing))
-        self.too_many(count)
-        return count
+    def with_missing(self, parents: Dict[str, str]) -> List[int]:
+        """How many codes each level has with those that mean no answer, which come right below the total."""
+        more = [it for it in self.missing if it not in parents]
+        self.too_many(len(parents) + len(more))
+        return sizes_of([depth_in(parents, it) for it in parents] + [1] * len(more))
 
     def fit_tree(self, parents: Dict[str, str], name: str, do: str) -> None:
         """Refuses codes that a hierarchy file doesn't have, or has with others below them."""
@@ -243,9 +266,9 @@ def read_tree(text: str, lead: str, total: str, name: str) -> Dict[str, str]:
     for number, line in enumerate(text.split("\n"), 1):
         line = line[:-1] if line.endswith("\r") else line
         depth = 0
-        while line.startswith(lead):
-            line, depth = line[len(lead):], depth + 1
-        code = line.strip(BLANKS)
+        while line.startswith(lead, depth * len(lead)):
+            depth += 1
+        code = line[depth * len(lead):].strip(BLANKS)
         if not code and not depth:
             continue
         fault = fault_of(code, depth, above, total, parents)

@@ -2,6 +2,7 @@
 
 from typing import Dict, List, Sequence, Tuple
 
+from starting.depths import spellings
 from starting.refusals import Refusal, shown
 
 USAGE = "usage: start DATA.csv --value COLUMN --by COLUMN [--by COLUMN ..]   (start --help has all words)"
@@ -14,6 +15,7 @@ What is summed, and by what
   --value COLUMN           the response: the column that is added up
   --by COLUMN              a variable of the one table; give it once for each
   --table COLUMN,COLUMN    a table with these variables; give it once for each table
+  COLUMN:2                 in --by and --table: the codes of the column down to level 2 alone; level 1 is right below the total
   --weight COLUMN          the weight of a record; the rules get WGT(1)
 
 Codes
@@ -134,12 +136,12 @@ class Words:
             return [self.many["by"]]
         return [it.split(",") for it in self.many["table"]]
 
-    def named(self) -> List[str]:
-        """Every column that the words name, as it is written there."""
-        found = [it for table in self.tables() for it in table]
-        found += [self.one[it] for it in ("value", "weight") if it in self.one]
+    def named(self) -> List[Tuple[str, ...]]:
+        """Every column that the words name, each with the names that it may have."""
+        found = [spellings(it) for table in self.tables() for it in table]
+        found += [(self.one[it],) for it in ("value", "weight") if it in self.one]
         for name in ("levels", "tree", "parent", "total"):
-            found += [column for column, _ in self.pairs(name)]
+            found += [(column,) for column, _ in self.pairs(name)]
         return found
 
 

@@ -163,6 +163,40 @@ MISTAKES += [
     Mistake("too many cells that hang together", MANY, "undecided: size, cell 1 above, 4500 hidden", ["4,500 hidden cells", "4,000 at most", "4,501 cells, 4,500 of them sensitive", "A, which has 4,500"], "run it.job", False),
 ]
 
+def deep(*lines: str, **files: bytes) -> Dict[str, Optional[bytes]]:
+    """The job of BASE with further lines, from line 9 on, and a priori files."""
+    more: Dict[str, Optional[bytes]] = {"%s.hst" % name: data for name, data in files.items()}
+    return {"it.job": JOB + "".join(it + "\n" for it in lines).encode(), **more}
+
+
+# The certificate of that job with `<DEPTH> (1,"Region",1)`: one cube of the four inner cells.
+CUT_CERTIFICATE = ("argus certificate 2\nmethod MOD\ncells 9\nrelations 6\nhidden 4 5 7 8\n" + "".join("world %d %s 1 4:%d 5:%d 7:%d 8:%d\n" % (cell, side, n, -n, -n, n) for cell, side, n in (
+    (4, "above", 131), (4, "below", -131), (5, "above", -323), (5, "below", 323), (7, "above", -381), (7, "below", 381), (8, "above", 149), (8, "below", -149))) + "end\n").encode()
+
+MISTAKES += [
+    Mistake("a level of no table", deep('<DEPTH> (2,"Region",1)'), "refused: job line 9: NoSuchTable", ["it.job, line 9", "table 2", "one table, which is 1"]),
+    Mistake("a level of the response", deep('<DEPTH> (1,"Turnover",1)'), "refused: job line 9: NotInTable",
+            ['line 9, bytes 12 to 21: "Turnover"', "Table 1 (line 4) is spanned by Region and Size", "which is the response"]),
+    Mistake("a level of a name in small letters", deep('<DEPTH> (1,"region",1)'), "refused: job line 9: NotInTable", ["line 9", "large and small letters differ in Region"]),
+    Mistake("a level of another table's variable", {**other('"A""B" "A"', "FREQ(3,30)", "MOD()", TWO_ROWS, '<DEPTH> (2,"B",1)')}, "refused: job line 10: NotInTable",
+            ["line 10, bytes 12 to 14", "Table 2 (line 4) is spanned by A, and not by B", "It spans table 1"]),
+    Mistake("a level of nothing", deep('<DEPTH> (1,"",1)'), "refused: job line 9: NotInTable", ["line 9", "not by an empty name"]),
+    Mistake("two levels", deep('<DEPTH> (1,"Region",1)', '<DEPTH> (1,"Region",2)'), "refused: job line 10: Twice", ["line 10", "Line 9 has <DEPTH> for table 1 and Region already"]),
+    Mistake("a level that no tree has", deep('<DEPTH> (1,"Region",10)'), "refused: job line 9: BadValue", ["line 9, bytes 21 to 22: 10", "from 1 to 9"]),
+    Mistake("level 0", deep('<DEPTH> (1,"Region",0)'), "refused: job line 9: BadValue", ["line 9, byte 21: 0", "from 1 to 9"]),
+    Mistake("no level", deep('<DEPTH> (1,"Region")'), "refused: job line 9: BadValue", ["line 9, byte 20", "the last level"]),
+    Mistake("a level without quotes", deep("<DEPTH> (1,Region,1)"), "refused: job line 9: BadValue", ["line 9", "straight double quotes"]),
+    Mistake("a level without parentheses", deep('<DEPTH> 1,"Region",1'), "refused: job line 9: BadValue", ["line 9, byte 9", "opening parenthesis"]),
+    Mistake("two variables in one line", deep('<DEPTH> (1,"Region",1,"Size",1)'), "refused: job line 9: BadValue", ["line 9, byte 22", "line of its own"]),
+    Mistake("a command much like it", deep('<DEPHT> (1,"Region",1)'), "refused: job line 9: UnknownCommand", ["line 9", "is <DEPTH> meant?"]),
+    Mistake("a priori below the last level", deep('<APRIORI> "p.hst",1,","', '<DEPTH> (1,"Region",1)', p=b"North,a,c,7\nN1,a,p\n"), "refused: apriori table 1 line 2: UnknownCode",
+            ["p.hst, line 2, bytes 1 to 2: N1", "a code of level 2, and table 1 shows Region down to level 1 (it.job, line 10)", 'above it, "North"']),
+    Mistake("too few steps in a cut table", other('"A""B" "A""C"', "FREQ(3,30)", "MOD()", TWO_ROWS, '<STEPS> 1\n<DEPTH> (1,"A",1)'), "undecided: work, cell 4 above, 1 steps",
+            ["it.job, line 10: <STEPS> 1", "Cell 4 is [A a1 · B b1] in table 1"]),
+    Mistake("a table down to a level that is altered", {**deep('<DEPTH> (1,"Region",1)'), "table.csv": "Region,Size,Turnover\nTotal,Total,327.5\nTotal,a,170.6\n".encode(), "table.cert": CUT_CERTIFICATE},
+            "not accepted: Release 1 3", ["table.csv, line 3", '"Total,a,170.5"'], "check it.job"),
+]
+
 # What argus releases, and an office may not have meant.
 FLAT = b"Size 5 7\nTurnover 12 7\n<NUMERIC>\n"
 FLAT_JOB = JOB.replace(b'"Region""Size"', b'"Size"').replace(b"FREQ(3,30)", b"FREQ(2,30)")
@@ -193,4 +227,50 @@ DOUBTS = [
     Mistake("no record counts", sized("N1  50-249        ", "N1  50-249        "), "released: 0 records, 2 skipped, 0 passed over, 1 cells, 0 primary, 0 hidden", ["no record counts", "2 skipped"]),
     Mistake("a mark before the records", sized("\ufeff" + firm("50-249", 12), firm("50-249", 12), firm("50-249", 12)),
             "released: 3 records, 0 skipped, 0 passed over, 3 cells, 1 primary, 2 hidden", ["byte-order mark"]),
+]
+
+
+# Variables that overlap: INDUSTRY has levels, CLASS is the same field without them, DIVISION its first byte, GROUP a field of its own that goes
+# with it, and ACROSS has a byte of Class and one of Region.
+FIELDS = {"Industry": "Industry 1 2\n<HIERARCHICAL>\n<HIERLEVELS> 1 1\n", "Class": "Class 1 2\n", "Division": "Division 1 1\n", "Region": "Region 3 2\n", "Across": "Across 2 2\n",
+          "Group": "Group 5 5\n", "Size": "Size 10 1\n", "One": "One 11 1\n"}
+CODES = [(industry, region, group, size) for industry, group in (("11", "Food"), ("12", "Food"), ("21", "Steel"), ("22", "Steel")) for region in ("r1", "s2") for size in "ab"]
+FIRMS = "".join("%s%s%-5s%sx%4d\n" % (*it, 10 + k) for k, it in enumerate(CODES * 2))
+
+
+class Overlap(NamedTuple):
+    """Tables by their variables, further lines of the job, and for each doubt the two names and words that it must have."""
+
+    tables: List[str]
+    more: List[str]
+    doubts: List[List[str]]
+
+
+def files_of(it: Overlap) -> Dict[str, bytes]:
+    used = {name for table in it.tables for name in table.split()}
+    lines = ['<OPENMICRODATA> "m.asc"', '<OPENMETADATA> "m.rda"'] + ['<SPECIFYTABLE> %s|"V"' % "".join('"%s"' % name for name in table.split()) for table in it.tables]
+    lines += ["<SAFETYRULE> FREQ(1,30)", "<SUPPRESS> MOD()"] + ['<WRITETABLE> (%d,"%d.csv")' % (k, k) for k in range(1, len(it.tables) + 1)] + ['<CERTIFICATE> "it.cert"'] + it.more
+    return {"it.job": "".join(line + "\n" for line in lines).encode(), "m.asc": FIRMS.encode(),
+            "m.rda": ("".join(text for name, text in FIELDS.items() if name in used) + "V 12 4\n<NUMERIC>\n").encode()}
+
+
+OVERLAPS = [
+    Overlap(["Industry Region", "Industry"], ['<DEPTH> (2,"Industry",1)'], []),
+    Overlap(["Industry Region", "Size"], [], []),
+    Overlap(["Industry One", "Region One"], [], []),
+    Overlap(["Industry Region", "Division Region"], [], [["Industry", "Division", "they share byte 1 of the record", "each code of Industry occurs with a single code of Division",
+                                                         'table 2 takes Industry in place of Division, with <DEPTH> (2,"Industry",1).']]),
+    Overlap(["Division Region", "Industry Region", "Division Size"], [], [["Industry", "Division", "tables 1 and 3 take Industry",
+                                                                           '<DEPTH> (1,"Industry",1) and <DEPTH> (3,"Industry",1).']]),
+    Overlap(["Class Region", "Division"], [], [["Class", "Division", "Class gets a hierarchy with the codes of Division as level 1", '<DEPTH> (2,"Class",1).']]),
+    Overlap(["Industry Region", "Group"], [], [["Industry", "Group", "each code of Industry occurs with a single code of Group", '<DEPTH> (2,"Industry",1).']]),
+    Overlap(["Industry Group", "Group"], [], [["Industry", "Group", "table 1 leaves Group out, and table 2 takes Industry in place of Group", '<DEPTH> (2,"Industry",1).']]),
+    Overlap(["Industry Group"], [], [["Industry", "Group", "table 1 leaves Group out", '<DEPTH> (1,"Industry",1) it shows the codes of Group alone.']]),
+    Overlap(["Division", "Group"], [], [["Division", "Group", "each code of one occurs with a single code of the other", 'table 1 takes Group in place of Division, with <DEPTH> (1,"Group",1).']]),
+    Overlap(["Industry", "Class"], [], [["Industry", "Class", "they share bytes 1 to 2 of the record", 'table 2 takes Industry in place of Class, with <DEPTH> (2,"Industry",2).']]),
+    Overlap(["Industry", "Class"], ['<DEPTH> (1,"Industry",1)'], [["Industry", "Class", "table 2 takes Industry in place of Class, with", '<DEPTH> (2,"Industry",2).']]),
+    Overlap(["Class", "Across"], [], [["Class", "Across", "they share byte 2 of the record", "Neither is a level of the other", '<DEPTH> (1,"Class",1).']]),
+    Overlap(["Region", "Across", "Class"], [], [["Class", "Across", "<DEPTH> (3,"], ["Region", "Across", "they share byte 3", "each code of Across occurs with a single code of Region",
+                                                                                    '<DEPTH> (1,"Across",1)']]),
+    Overlap(["Industry Region", "Division", "Group", "Class"], [], [["Industry", it] for it in ("Class", "Division", "Group")] + [["Class", "Division"], ["Class", "Group"], ["Division", "Group"]]),
 ]

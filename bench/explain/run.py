@@ -15,6 +15,7 @@ what was damaged: no exception, the line that argus names, bytes that are there,
 import collections
 import csv
 import io
+import itertools
 import os
 import random
 import re
@@ -22,6 +23,7 @@ import shutil
 import subprocess
 import sys
 import tempfile
+import time
 
 HERE = os.path.dirname(os.path.abspath(__file__))
 TOP = os.path.dirname(os.path.dirname(HERE))
@@ -144,6 +146,56 @@ def by_hand(tally, program):
             text, said = said_by(it.asked.split(), it.answer + "\n")
             lacking = [word for word in it.words if word not in text]
             tally.wants(not lacking and 1 <= len(said.lines) <= 6, "%s: lacks %s:\n%s" % (it.name, lacking, text))
+
+
+# ------------------------------------------------------------------------------------------------------- variables that overlap
+
+DOUBT = re.compile(r"it\.job: (\S+) and (\S+) overlap: ")
+
+
+def doubted(tally, program, it):
+    """The doubts about variables of one job: all of those that are wanted, in any order, and no others."""
+    with Room():
+        for name, data in mistakes.files_of(it).items():
+            with open(name, "wb") as file:
+                file.write(data)
+        answer = ask(program, ["run", "it.job"])[1] if program else "released: 32 records, 0 skipped, 0 passed over, 9 cells, 0 primary, 0 hidden\n"
+        lines = said_by(["run", "it.job"], answer)[1].lines
+        found = {frozenset(DOUBT.match(line).groups()): line for line in lines if DOUBT.match(line)}
+        wanted = {frozenset(names): words for *names, words in ((doubt[0], doubt[1], doubt[2:]) for doubt in it.doubts)}
+        tally.wants(answer.startswith("released: ") and found.keys() == wanted.keys() and len(found) == len(lines), "%s: doubts about %s" % (it.tables, lines or answer))
+        for names, words in wanted.items():
+            lacking = [word for word in words + ["<DEPTH> ("] if word not in found.get(names, "")]
+            tally.wants(not lacking, "%s: lacks %s: %s" % (it.tables, lacking, found.get(names)))
+
+
+def overlapping(tally, program):
+    """Jobs by hand; then made records, whose pairs are counted anew: each pair that shares bytes, or of which each code of one occurs with a
+    single code of the other, which has two at least."""
+    for it in mistakes.OVERLAPS:
+        doubted(tally, program, it)
+    draw = random.Random(7)
+    for _ in range(60):
+        places = {name: (draw.randrange(1, 9), draw.choice((1, 1, 2))) for name in "ABCDE"}
+        rows = ["".join(draw.choice("xxy" if at % 3 else "xyz ") for at in range(9)) for _ in range(draw.choice((0, 2, 3, 5, 9, 30)))]
+        skipped = ["%s" % "".join(draw.choice("pqr") for _ in range(9)) for _ in range(3)]
+        with Room():
+            made = {"m.rda": "".join("%s %d %d\n" % (name, *place) for name, place in places.items()) + "V 10 2\n<NUMERIC>\n", "m.asc": "".join(it + " 7\n" for it in rows) + "".join(it + "  \n" for it in skipped)}
+            made["it.job"] = '<OPENMICRODATA> "m.asc"\n<OPENMETADATA> "m.rda"\n' + "".join('<SPECIFYTABLE> "%s"|"V"\n' % name for name in places)
+            for name, text in made.items():
+                with open(name, "w", encoding="ascii") as file:
+                    file.write(text)
+            lines = said_by(["run", "it.job"], "released: %d records, 3 skipped, 0 passed over, 9 cells, 0 primary, 0 hidden\n" % max(len(rows), 1))[1].lines
+            found = {frozenset(DOUBT.match(line).groups()) for line in lines if DOUBT.match(line)}
+            wanted = {frozenset(pair) for pair in itertools.combinations(places, 2) if is_overlap(rows, *(places[it] for it in pair))}
+            tally.wants(found == wanted, "made variables %s: %s, not %s" % (places, found, wanted))
+
+
+def is_overlap(rows, one, other):
+    bytes_of = [set(range(first, first + width)) for first, width in (one, other)]
+    both = {tuple(row[first - 1:first - 1 + width].strip() for first, width in (one, other)) for row in rows}
+    codes = [{it[k] for it in both} for k in (0, 1)]
+    return bool(bytes_of[0] & bytes_of[1]) or any(len(both) == len(codes[k]) and len(codes[1 - k]) > 1 for k in (0, 1))
 
 
 # ------------------------------------------------------------------------------------------------- jobs that can't be protected
@@ -384,6 +436,37 @@ def strangers(tally):
                     tally.wants(False, "%s: %s: %s: %s" % (job, answer, type(fault).__name__, fault))
 
 
+# ----------------------------------------------------------------------------------------------------------------------- long lines
+
+# Lines of 60,000 bytes at which a pattern could take its time.
+LONG = [b"<DEPTH> (" + b"0" * 60000, b'<DEPTH> (1,"' + b"A" * 60000 + b'",1)', b"<DEPTH>" + b" " * 60000 + b"x", b"<SUPPRESS> RND(" + b"0" * 60000, b"<SPECIFYTABLE> " + b"| " * 30000 + b"x",
+        b'"' * 60001, b" " * 60000 + b"x", b"x" + b" " * 60000 + b"x", b"@" * 60000 + b"x", b"<" * 60000, b"(" * 60000, b"1" * 60000, b"<SAFETYRULE> " + b"P(1)|" * 12000, b"North,Total," + b"1" * 60000,
+        b"<APRIORI> " + b'","' * 20000, b"<WRITETABLE> (" + b"1" * 60000, b"<STEPS> 1" + b" " * 60000 + b"1", b"a," * 30000, b"<" + b"A" * 60000, b"A" * 60000 + b" 1 1", b"need 4 4 above 1 " + b"1:1 " * 15000]
+
+
+def long_lines(tally, program):
+    """A line of 60,000 bytes at the end of each kind of file: what is said of argus's answer, and after a release, is said within a second."""
+    for example, job, files in (("manual", "survey", "survey.job survey.asc survey.rda region.cdl region.hrc survey.cert survey.csv"), ("stated", "stated", "a.hst")):
+        with Room(os.path.join(TOP, "examples", example)):
+            ask(program, ["run", job + ".job"])
+            for name in files.split():
+                with open(name, "rb") as file:
+                    whole = file.read()
+                for line in LONG:
+                    with open(name, "wb") as file:
+                        file.write(whole + line + b"\n")
+                    for answer in (ask(program, ["check", job + ".job"])[1], "released: 7 records, 0 skipped, 0 passed over, 20 cells, 0 primary, 0 hidden\n"):
+                        begun = time.process_time()
+                        try:
+                            said_by(["check", job + ".job"], answer)
+                            seconds = time.process_time() - begun
+                            tally.wants(seconds < 1, "%s with %s..: %.1f s after %s" % (name, line[:20], seconds, answer))
+                        except Exception as fault:  # that is what is looked for
+                            tally.wants(False, "%s with %s..: %s: %s" % (name, line[:20], type(fault).__name__, str(fault)[:200]))
+                with open(name, "wb") as file:
+                    file.write(whole)
+
+
 # -------------------------------------------------------------------------------------------------------------------- the command
 
 
@@ -412,11 +495,13 @@ def main():
     tally, statuses = Tally(), {}
     stored(tally, "--store" in words)
     by_hand(tally, program)
+    overlapping(tally, program)
     cannot(tally, program, "--store" in words)
     strangers(tally)
     listings(tally, program)
     command(tally)
     if program:
+        long_lines(tally, program)
         statuses = damages(tally, program, 150 if "--few" in words else 2000)
     without = "" if program else " (without argus, so no damaged inputs and no remedies)"
     damaged = ", %d damaged inputs" % sum(statuses.values()) if statuses else ""

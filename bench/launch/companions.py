@@ -10,7 +10,7 @@ from typing import Dict, List, Optional, Set, Tuple
 
 from tries import TOP, call, put, read, same, wants
 
-SEAL, CARRY = (os.path.join(TOP, it) for it in ("seal", "carry"))
+SEAL, CARRY, PAGE = (os.path.join(TOP, it) for it in ("seal", "carry", "page"))
 # The built program, which the launcher has brought once (try_a_program_is_here).
 ARGUS = os.path.join(TOP, "out", "argus")
 # The files of each job, as a reader of the manual names them: those that it reads and those that it writes.
@@ -209,6 +209,61 @@ def try_carry_each_reason(folder: str) -> None:
          'carry: the job names the file so: <APRIORI> "FILE",1,","\n'), "a variable less")
     put(os.path.join(folder, "this.hst"), "".join(line + "\n" for line in found[1]))
     same(ask(folder, ARGUS, "run", "this.job")[0], 0, "argus run with the lines")
+
+
+# Two tables by the same variables, the second down to level 1 of the branches.
+LEVELS = "<HIERARCHICAL>\n<HIERLEVELS> 1 5\n"
+DEPTH = '<DEPTH> (2,"Branch",1)\n'
+TWICE = [("Region", "Branch"), ("Region", "Branch")]
+TWO_LEVELS = {("North", "A1"): 10, ("North", "A2"): 20, ("North", "B1"): 40, ("South", "A1"): 30, ("South", "B1"): 40}
+
+
+def try_carry_levels(folder: str) -> None:
+    """Tables at two levels: a line for table 2 names a cell that table 2 has, and argus takes it."""
+    made(folder, "last", TWICE, TWO_LEVELS, DEPTH, LEVELS)
+    put(os.path.join(folder, "last1.csv"), "Region,Branch,Turnover\nAll,Total,420\nNorth,A1,x\nNorth,A,x\nNorth,B1,x\n")
+    put(os.path.join(folder, "last2.csv"), "Region,Branch,Turnover\nAll,Total,420\nNorth,A,x\n")
+    made(folder, "this", TWICE, TWO_LEVELS, DEPTH + '<APRIORI> "this.hst",2,","\n', LEVELS)
+    put(os.path.join(folder, "this.hst"), "")
+    same(carried(folder, "last.job", "this.job", "--table", "1")[:2], (0, ["North,A1,c,1", "North,A,c,1", "North,B1,c,1"]), "table 1")
+    found = carried(folder, "last.job", "this.job", "--table", "2")
+    same(found, (0, ["North,A,c,1"], "carry: 3 hidden last year: 1 with a line; 2 of another table\n"), "table 2")
+    put(os.path.join(folder, "this.hst"), "".join(it + "\n" for it in found[1]))
+    wants(ask(folder, ARGUS, "run", "this.job")[1].startswith("released: 15 records"), "argus doesn't take the line")
+
+
+def try_seal_levels(folder: str) -> None:
+    """A job with a line DEPTH: its word in quotes is no file."""
+    made(folder, "this", TWICE, TWO_LEVELS, DEPTH, LEVELS)
+    same(ask(folder, ARGUS, "run", "this.job")[0], 0, "argus run")
+    same(ask(folder, SEAL, "this.job")[0], 0, "seal")
+    lines = read(os.path.join(folder, "this.seal")).split("\n")
+    same([it[66:] for it in lines if it and it[0] != "#"], ["this.job", "this.asc", "this.rda", "this1.csv", "this2.csv", "this.cert"], "the files")
+    same(ask(folder, SEAL, "--check", "this.job"), (0, "sealed\n", ""), "seal --check")
+
+
+# Lines of 60,000 bytes at which a pattern could take its time.
+LONG = ["<DEPTH> (" + "0" * 60000, '<DEPTH> (1,"' + "A" * 60000, "<DEPTH>" + " " * 60000 + "x", "<SUPPRESS> RND(" + "0" * 60000, "<SPECIFYTABLE> " + "| " * 30000 + "x", '"' * 60001,
+        " " * 60000 + "x", "x" + " " * 60000 + "x", "@" * 60000 + "x", "<" * 60000, "(" * 60000, "1" * 60000, "<SAFETYRULE> " + "P(1)|" * 12000, '<APRIORI> ' + '","' * 20000,
+        "<WRITETABLE> (" + "1" * 60000, "<STEPS> 1" + " " * 60000 + "1", "a," * 30000, "<" + "A" * 60000, "1:1 " * 15000]
+SECONDS = 5
+
+
+def try_long_lines(folder: str) -> None:
+    """Whatever stands in a line of 60,000 bytes of a file, seal, carry and page end within seconds, and say no more than a line."""
+    for name, job, files in (("manual", "survey", "survey.job survey.asc survey.rda region.cdl region.hrc survey.csv survey.cert"), ("stated", "stated", "a.hst")):
+        place = example(name, folder)
+        ask(place, ARGUS, "run", job + ".job")
+        whole = {it: read(os.path.join(place, it)) for it in files.split()}
+        for file, was in whole.items():
+            put(os.path.join(place, file), was + "".join(it + "\n" for it in LONG))
+            for words in ([SEAL, job + ".job", "--force"], [CARRY, job + ".job", job + ".job"], [PAGE, job + ".job"], [PAGE, job + ".job", "--public", "--unchecked"]):
+                begun = os.times()
+                status, _, told = ask(place, *words)
+                used = os.times()
+                seconds = used.children_user - begun.children_user
+                wants(seconds < SECONDS and "Traceback" not in told and status in (0, 1, 2, 3), "%s with long lines in %s: %.1f s, %d %s" % (os.path.basename(words[0]), file, seconds, status, told[:200]))
+            put(os.path.join(place, file), was)
 
 
 def try_carry_odd_codes(folder: str) -> None:

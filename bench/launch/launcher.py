@@ -476,6 +476,45 @@ def try_doubts(folder: str) -> None:
     wants((status, said) == (0, answer) and told.count("\n") == 1 and "10,800,000 bytes, so nothing was looked at" in told and "explain it.job 'released: 900000" in told, "a large file: %r" % told)
 
 
+OVERLAP_JOB = """<OPENMICRODATA> "firms.asc"
+<OPENMETADATA> "firms.rda"
+<SPECIFYTABLE> "Industry""Region"|"Turnover"
+<SPECIFYTABLE> %s"Region"|"Turnover"
+<SUPPRESS> MOD()
+<WRITETABLE> (1,"class.csv")
+<WRITETABLE> (2,"division.csv")
+<CERTIFICATE> "table.cert"
+"""
+OVERLAP_METADATA = "Industry 1 2\n<HIERARCHICAL>\n<HIERLEVELS> 1 1\nDivision 1 1\nRegion 4 5\nTurnover 10 5\n<NUMERIC>\n"
+OVERLAP = """  it.job: Industry and Division overlap: they share byte 1 of the record and each code of Industry occurs with a single code of Division. \
+argus knows no sums between the two, and a reader of several tables can add up across them. \
+If they are one classification, table 2 takes Industry in place of Division, with <DEPTH> (2,"Industry",1).
+"""
+
+
+def try_overlaps(folder: str) -> None:
+    """After a release the launcher prints a line for each pair of variables that overlap; with the line DEPTH that this line has, none. Of
+    a large file such pairs are told too."""
+    tree = Tree(folder)
+    tree.make()
+    tree.ask("run", "0")
+    for name in ("explain", "explaining"):
+        copied(name, tree.top)
+    put(os.path.join(tree.work, "firms.rda"), OVERLAP_METADATA)
+    rows = ["%s %s %5d\n" % (industry, region, 10) for industry in ("11", "12", "21", "22") for region in ("North", "South")]
+    answer = "released: 8 records, 0 skipped, 0 passed over, 21 cells, 0 primary, 0 hidden\n"
+    put(tree.at("out", "argus"), "#!/bin/sh\nprintf '%s'\n" % answer.replace("\n", "\\n"), True)
+    cut = OVERLAP_JOB % '"Industry"' + '<DEPTH> (2,"Industry",1)\n'
+    for times in (1, 90_000):
+        put(os.path.join(tree.work, "firms.asc"), "".join(rows) * times)
+        for text, doubt in ((OVERLAP_JOB % '"Division"', OVERLAP), (cut, "")):
+            put(os.path.join(tree.work, "it.job"), text)
+            status, said, told = tree.ask("run", "it.job", ARGUS_EXPLAIN="1")
+            large = told.count("so nothing was looked at but whether variables overlap")
+            wants((status, said, large) == (0, answer, int(times > 1)) and told.endswith(doubt) and told.count("\n") == large + bool(doubt), "%d records: %r" % (8 * times, told))
+            same(tree.ask("run", "it.job"), (0, answer, ""), "%d records, no terminal" % (8 * times))
+
+
 def try_long_run(folder: str) -> None:
     tree = Tree(folder)
     tree.make()

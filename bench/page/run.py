@@ -82,6 +82,25 @@ def wide():
             "wide.asc": "".join(lines)}
 
 
+def deep():
+    """Tables that show one classification down to several levels; no table has its lowest codes."""
+    lines, state = [], 5
+    for _ in range(240):
+        state = (state * 6364136223846793005 + 1442695040888963407) % 2**64
+        k = state >> 33
+        lines.append("%d%d%d%s%s%4d\n" % (1 + k % 3, 1 + k // 3 % 3, 1 + k // 9 % 2, ("n1", "n2", "s1", "s2", "s3")[k // 18 % 5], "ab"[k // 90 % 2], 1 + k // 180 % 900))
+    return {"deep.job": '<OPENMICRODATA> "deep.asc"\n<OPENMETADATA> "deep.rda"\n<SPECIFYTABLE> "U""W"|"N"\n<SPECIFYTABLE> "U""R"|"N"\n<SPECIFYTABLE> "R"|"N"\n'
+                        '<depth> ( 02 ,"U", 1 )\n<SAFETYRULE> FREQ(4,30)|NK(1,60)\n<SUPPRESS> MOD()\n<WRITETABLE> (1,"class.csv")\n<WRITETABLE> (2,"place.csv")\n'
+                        '<WRITETABLE> (3,"land.csv")\n<CERTIFICATE> "deep.cert"\n<DEPTH> (1,"U",2)\n<DEPTH> (3,"R",1)\n',
+            "deep.rda": 'U 1 3\n<HIERARCHICAL>\n<HIERLEVELS> 1 1 1\nR 4 2\n<HIERARCHICAL>\n<HIERCODELIST> "deep.hrc"\nW 6 1\n<RECODEABLE>\nN 7 4\n<NUMERIC>\n',
+            "deep.hrc": "n\n@n1\n@n2\ns\n@s1\n@s2\n@s3\n", "deep.asc": "".join(lines)}
+
+
+# What the page calls the three tables, their lines, and for the rows of the first and the third the row that each is below.
+DEEP = (("N by U (to level 2) and W", 39), ("N by U (to level 1) and R", 32), ("N by R (to level 1)", 3))
+DEEP_PARENTS = {1: [None, 0, 1, 1, 1, 0, 5, 5, 5, 0, 9, 9, 9], 3: [None, 0, 0]}
+
+
 class Count:
     """How much was tried, and what differs."""
 
@@ -192,6 +211,8 @@ class Trial:
             release = Kept.release
             self.sums(release)
             self.marks(release)
+            if job == "deep.job":
+                self.levels(content("it.html"))
             if len(release.hidden) < MANY:
                 self.public(job)
                 self.keeps(job)
@@ -284,6 +305,17 @@ class Trial:
                 self.wants(said.count("Show it in the tables") == 2, "cell %d hasn't two complete tables" % cell)
             else:
                 self.wants("If it were shown" in said, "cell %d doesn't say why it stays hidden" % cell)
+
+    def levels(self, text):
+        """Tables down to several levels: their names, their lines, and below which row of its own table a row stands."""
+        sections = re.findall(r'<section class="table.*?</section>', text, re.DOTALL)
+        for number, (said, (name, lines)) in enumerate(zip(sections, DEEP), 1):
+            self.wants(">%s</h2>" % name in said, "table %d isn't called %s" % (number, name))
+            self.wants(said.count("data-c=") == lines, "table %d has %d lines, not %d" % (number, said.count("data-c="), lines))
+            if number in DEEP_PARENTS:
+                found = re.findall(r'<th scope="row" role="rowheader" class="d[0-9]"(?: data-parent="([0-9]+)")?>', said)
+                self.wants([int(it) if it else None for it in found] == DEEP_PARENTS[number], "table %d: the rows are below %s" % (number, found))
+        self.wants(len(sections) == 3 and "N by U (to level 2) and W; by U (to level 1) and R; by R (to level 1)" in text, "the title doesn't say the levels")
 
     # The public page, and the names that a page may not take.
 
@@ -474,7 +506,7 @@ def releases(program, look):
             for job in sorted(it for it in os.listdir(".") if it.endswith(".job")):
                 Trial("%s, %s" % (name, job), program, look).run(job)
     for name, files, job in (("a survey of 464 cells", demo.files(1, 2000), "demo.job"),
-                             ("three variables", three(), "three.job"), ("many columns", wide(), "wide.job"), ("odd names", ODD, "odd.job")):
+                             ("three variables", three(), "three.job"), ("tables to several levels", deep(), "deep.job"), ("many columns", wide(), "wide.job"), ("odd names", ODD, "odd.job")):
         with folder_of(files):
             Trial(name, program, look).run(job)
 

@@ -236,6 +236,94 @@ SMALL = "a,b,v\nx,1,10\ny,2,20\n"
 CALL = ("it.csv", "--value", "v", "--by", "a")
 
 
+# Tables down to a level.
+
+LEVELS = "industry;place;size;v\n" + "".join("%s;%s;%s;%d\n" % (it, place, size, k + 1) for k, (it, place, size) in enumerate(product(
+    ("111", "112", "121", "211", "3", ""), ("N1", "N2", "S1"), ("small", "large"))))
+PLACES = "N\n@N1\n@N2\nS\n@S1\n"
+SPANS = ((("industry", None), ("size", None)), (("industry", 2), ("place", 1)), (("place", None), ("industry", 1)), (("size", 1),))
+
+
+def uppers(column, code):
+    """A code with those above it, from below; the total is None."""
+    above = {"N1": ["N"], "N2": ["N"], "S1": ["S"]}
+    return [code, *(above.get(code, []) if column == "place" else [code[:it] for it in (2, 1) if it < len(code)] if column == "industry" else []), None]
+
+
+def depths():
+    """Tables to several levels: the lines of the job, and the cells of its listing, which are added up here record by record."""
+    with folder():
+        put("it.csv", LEVELS)
+        put("p.hrc", PLACES)
+        tables = [",".join(name + (":%d" % level if level else "") for name, level in table) for table in SPANS]
+        status, out, err = start("it.csv", "--value", "v", "--levels", "industry=1,1,1", "--tree", "place=p.hrc", *(it for table in tables for it in ("--table", table)))
+        if not Tries.wants(status == 0, "depths", err):
+            return
+        lines = [it for it in content("it.job").decode().split("\n") if it and not it.startswith("//")]
+        want = ['<DEPTH> (2,"industry",2)', '<DEPTH> (2,"place",1)', '<DEPTH> (3,"industry",1)', '<DEPTH> (4,"size",1)']
+        Tries.wants(lines[-4:] == want and lines[-5].startswith("<CERTIFICATE>"), "depths", "the job ends with %s" % lines[-5:])
+        Tries.wants("table 2: industry down to level 2, 7 of its 11 codes" in out and "table 4: size down to level 1, all of its 2 codes" in out, "depths", out)
+        cells = {}
+        columns = ("industry", "place", "size")
+        for row in csv.DictReader(io.StringIO(LEVELS), delimiter=";"):
+            for table in SPANS:
+                cut = []
+                for name, level in table:
+                    chain = uppers(name, row[name])
+                    cut.append(chain[max(0, len(chain) - 1 - (level or 9)):])
+                for key in product(*cut):
+                    by = dict(zip((name for name, _ in table), key))
+                    cells.setdefault(tuple(by.get(it) for it in columns), set()).add(row["v"])
+        many = grid()
+        Tries.wants(" %d cells." % many in out, "depths", "start doesn't say that there are %d cells: %s" % (many, out))
+        if Tries.cells:
+            have, said = listed("it", columns)
+            want = {key: Fraction(sum(map(int, it))) for key, it in cells.items()}
+            Tries.wants({key: it for key, it in have.items() if it} == want and len(have) == many, "depths", "the listing doesn't add up: %d cells, %s" % (len(have), said))
+
+
+def grid():
+    """How many cells the tables have: each choice of codes of each table, once."""
+    codes = {"industry": {it for code in ("111", "112", "121", "211", "3", "") for it in uppers("industry", code)}, "place": {None, "N", "S", "N1", "N2", "S1"}, "size": {None, "small", "large"}}
+    found = set()
+    for table in SPANS:
+        cut = [[it for it in codes[name] if it is None or len(uppers(name, it)) - 1 <= (level or 9)] for name, level in table]
+        found.update(frozenset((name, it) for (name, _), it in zip(table, key) if it is not None) for key in product(*cut))
+    return len(found)
+
+
+def colons():
+    """A column whose own name ends with a colon and a number keeps it; and the separator is told from names with levels."""
+    with folder():
+        put("it.csv", "a:2;b,c;v\n11;x;1\n12;y;2\n")
+        status, _, err = start("it.csv", "--value", "v", "--by", "a:2", "--by", "b,c:1")
+        said = content("it.job").decode() if status == 0 else err
+        Tries.wants('<SPECIFYTABLE> "a_2""b_c"|"v"' in said and said.count("<DEPTH>") == 1 and '<DEPTH> (1,"b_c",1)' in said, "colons", said)
+        put("two.csv", "a,b;c,d;v\n11;x;1\n")
+        status, _, err = start("two.csv", "--value", "v", "--by", "a,b:03", "--by", "c,d")
+        said = content("two.job").decode() if status == 0 else err
+        Tries.wants('<DEPTH> (1,"a_b",3)' in said, "colons", said)
+
+
+# Fields of 60,000 bytes at which a pattern could take its time, quoted where they have a comma or a quote.
+LONG = ["1" * 60000, "1," * 30000, "1." * 30000, "1,234" * 12000, "e" * 60000, "1e" + "9" * 60000, " " * 60000 + "1", "1" + " " * 60000 + "1", '"' * 60000, "-" * 60000, "x:" * 30000, "@" * 60000, "0" * 60000 + ".5"]
+
+
+def long_lines():
+    """A line of 60,000 bytes in the CSV, in a hierarchy file or among the words is taken or refused within a second."""
+    for text in LONG:
+        field = '"%s"' % text.replace('"', '""')
+        for csv_text, tree, words in (("a,v\nx,%s\n" % field, "x\n", ()), ("a,v\n%s,1\n" % field, "x\n", ()), ("a,%s,v\nx,1,1\n" % field, "x\n", ()), ("a,v\nx,1\n", text + "\nx\n", ("--tree", "a=it.hrc")),
+                                      ("a,v\nx,1\n", "x\n", ("--by", "b:" + text)), ("a,v\nx,1\n", "x\n", ("--levels", "a=" + text)), ("a,v\nx,1\n", "x\n", ("--rule", text))):
+            with folder():
+                put("it.csv", csv_text)
+                put("it.hrc", tree)
+                begun = time.process_time()
+                status, _, err = start(*CALL, *words)
+                seconds = time.process_time() - begun
+                Tries.wants(status in (0, 1, 2) and seconds < 1 and "Traceback" not in err, "long lines", "%.1f s, status %d for %s.. %s: %s" % (seconds, status, text[:10], words[:1], err[:200]))
+
+
 def keeps():
     for name in ("it.asc", "it.rda", "it.job", "it_table.csv", "it.cert", "it.extra"):
         with folder():
@@ -381,7 +469,7 @@ def main():
         for it in REFUSED:
             with folder():
                 by_refusal(*it)
-        for it in (spelled, keeps, meanwhile, elsewhere, compares, own, words):
+        for it in (spelled, depths, colons, long_lines, keeps, meanwhile, elsewhere, compares, own, words):
             it()
     left = "" if Tries.cells and Tries.argus else "; argus or cells isn't there (out/argus, out/cells), so the listing was left out"
     of = "" if not ends else " (of 200 damaged CSVs %d taken, %d refused)" % (ends.get("taken", 0), ends.get("refused", 0))
