@@ -25,6 +25,7 @@ pub mod PromiseKept
 pub mod DemoJobs
 pub mod DemoRuns
 pub mod CheckRuns
+mod AcceptedTables
 pub mod IntervalRuns
 pub mod AuditRuns
 mod Migrations

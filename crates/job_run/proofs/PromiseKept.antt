@@ -1,29 +1,28 @@
 -- The promise holds of what a run for a release answers, and of what it put.
-use Rattle.std.proofs.Common.{◌≡◌, ℕ, zero, suc, ◌+◌, ◌<◌, ◌==◌, ◌||◌, inl, inr, Bool, true, false, List, [], ◌∷◌, length, map, slice_get, Option, None, Some, Result, Ok, Err, IsOkAnd, arith, refl, ap, sym, subst, ◌∙◌, ℤ}
-use Rattle.std.specs.List.{list_any, zip, IsDistinct}
+use Rattle.std.proofs.Common.{◌≡◌, ℕ, zero, suc, ◌+◌, ◌<◌, Bool, true, false, nat_lt, if◌then◌else◌, List, [], ◌∷◌, length, take, map, slice_get, All, Option, None, Some, Result, Ok, Err, IsOkAnd, arith, refl, ap, sym, subst, ◌∙◌, ℤ, pos, ◌≤ℤ◌}
+use Rattle.std.specs.List.{AllByRecursion, zip, IsDistinct}
 use Rattle.std.specs.Str.{bytes_eq}
-use Rattle.std.proofs.lemmas.Bool.Decides.{Decides-eqb, nat_tests}
-use Rattle.std.proofs.lemmas.List.{length-map, length-replicate, length-set}
+use Rattle.std.proofs.lemmas.List.{length-map, length-replicate}
+use Rattle.std.proofs.lemmas.List.Elements.{All-nil, All-cons}
 use Rattle.std.proofs.lemmas.Option.{slice_get_within}
 use Rattle.std.proofs.lemmas.Slice.Zip.{firsts-zip}
 use Rattle.sdc_base.proofs.GrowingLists.{read-at}
 use Rattle.sdc_base.proofs.StepLemmas.{bind_ok}
-use Rattle.sdc_base.proofs.WeakDual.{All-found}
-use Rattle.sdc_base.specs.HiddenSets.{is_hidden, full_set, hide, hide_cells}
+use Rattle.sdc_base.proofs.Truths.{truth_from_zero}
+use Rattle.sdc_base.specs.HiddenSets.{full_set, hide_cells}
 use Rattle.sdc_base.specs.Records.{Name}
 use Rattle.sdc_base.specs.RuleLevels.{Figures, figures_in}
 use Rattle.sdc_base.specs.Roundings.{IsAdjacent}
 use Rattle.sdc_base.specs.Steps.{map_fault, refuse}
 use Rattle.sdc_base.specs.Systems.{number_at}
 use Rattle.sdc_base.specs.WhereTold.{WhereTold}
+use Rattle.sdc_base.specs.Trees.{Tree}
 use Rattle.sdc_base.specs.Worlds.{Protects}
+use Rattle.sdc_base.specs.declared.rows.Row.{Row}
 use Rattle.sdc_base.specs.declared.rule.Rules.{Rules}
 use Rattle.sdc_base.specs.declared.side.Side.{Side}
 use Rattle.sdc_base.specs.declared.system.System.{System}
-use Rattle.worlds.proofs.RefutationLaws.{no_world}
 use Rattle.worlds.specs.declared.multipliers.Multipliers.{Multipliers}
-use Rattle.repair.specs.HidingOrder.{protected_case}
-use Rattle.repair.proofs.Flags.{same_or_other, hidden_here, hidden_other}
 use Rattle.repair.proofs.Growing.{protects_more}
 use Rattle.repair.proofs.Order.{asked_primary}
 use Rattle.apriori.specs.Applying.{apply_of, file_says, lines_say}
@@ -33,29 +32,35 @@ use Rattle.apriori.specs.Priors.{empty_prior}
 use Rattle.apriori.specs.Settling.{SettledCell, settle_of, settled_cell, view_of_cell}
 use Rattle.apriori.specs.declared.prior.Prior.{Prior}
 use Rattle.attackers.specs.declared.attack.Attack.{Attack}
-use Rattle.attackers.specs.Extras.{attack_of}
-use Rattle.attackers.specs.ExtraAcceptance.{IsExtraNeed}
-use Rattle.attackers.specs.Alone.{is_sole}
 use Rattle.attackers.specs.KnownCells.{without_known}
 use Rattle.attackers.specs.AttackOrder.{attacks_of}
-use Rattle.attackers.proofs.AllAttacks.{attacks_are, within_cells}
+use Rattle.attackers.proofs.AllAttacks.{attacks_are}
 use Rattle.attackers.proofs.AskedCells.{AttackSays, attack_at, attack_says}
-use Rattle.attackers.proofs.Concluding.{length-hide_cells}
 use Rattle.attackers.proofs.Knowing.{without_more}
 use Rattle.attackers.proofs.Resisting.{in_full}
-use Rattle.certificate.specs.declared.extra.ExtraNeed.{ExtraNeed}
+use Rattle.certificate.specs.declared.extra.Extra.{Extra}
 use Rattle.job_lang.proofs.PutsApart.{differ}
 use Rattle.job_lang.specs.FileLaws.{puts_of as names_put}
 use Rattle.job_lang.specs.declared.job.OutputLine.{OutputLine}
 use Rattle.job_lang.specs.declared.job.PriorLine.{PriorLine}
 use Rattle.linked_tables.specs.Tables.{book_with_depths}
+use Rattle.microdata.proofs.Within.{within_limits}
+use Rattle.microdata.specs.Feeding.{fed_of}
+use Rattle.microdata.specs.Fields.{scale_of}
+use Rattle.microdata.specs.Microdata.{records_of}
+use Rattle.microdata.specs.Ranges.{AreWithinLimits, IsRow}
+use Rattle.microdata.specs.declared.faults.RowWhy.{RowWhy}
+use Rattle.microdata.specs.declared.layout.Layout.{Layout}
+use Rattle.microdata.specs.declared.records.Records.{Records}
 use Rattle.office_io.specs.Files.{Files}
 use Rattle.office_io.specs.Shelves.{ShelfState}
 use Rattle.office_io.specs.Trays.{TrayState}
 use Rattle.job_inputs.specs.Cells.{cells, cells_fault, figures, prior_fault}
-use Rattle.job_inputs.specs.Inputs.{inputs_of}
+use Rattle.job_inputs.specs.CodeSources.{spanning_fields}
+use Rattle.job_inputs.specs.Inputs.{described_of, inputs_of, long_file_fault, look_at_records, records_in}
+use Rattle.job_inputs.specs.Layouts.{layout_of}
 use Rattle.job_inputs.specs.PriorStatements.{prior_line, priors_of, with_bytes, with_file, with_files, basis_in}
-use Rattle.job_inputs.specs.ReadFiles.{bytes_of_file}
+use Rattle.job_inputs.specs.ReadFiles.{bytes_of_file, limit, row_fault}
 use Rattle.job_inputs.specs.ClassifiedJobs.{SettledInputs, overwrites_job, settled_cells, settled_of}
 use Rattle.job_inputs.specs.declared.faults.Fault.{Fault}
 use Rattle.job_inputs.specs.declared.faults.Fault.TheVariants as fault
@@ -66,7 +71,7 @@ use Rattle.job_inputs.specs.SoundJobs.{IsSoundJob}
 use Rattle.cell_protection.specs.declared.protection.ProtectionOutcome.TheVariants as protection
 use Rattle.job_run.specs.Endings.{IsHidingRelease, IsReleaseBy}
 use Rattle.job_run.specs.GuardedReleases.{HasNoGuard, IsGuardedRelease, guarded_puts}
-use Rattle.job_run.specs.Promise.{AreRounded, AreTablesBy, AreTablesOf, CantBeGuarded, CantBeProtected, CantBeRounded, GuardedTables, GuardsEachCell, HasCellsByRules, IsPromiseOf, IsTrueOf, ProtectedTables, RoundedTables, StaysOpen, knows_cell, unknown_to, without}
+use Rattle.job_run.specs.Promise.{AreRounded, AreTablesBy, AreTablesOf, CantBeGuarded, CantBeProtected, CantBeRounded, GuardedTables, HasCellsByRules, IsPromiseOf, IsTrueOf, ProtectedTables, RoundedTables, cell_by_rules, unknown_to}
 use Rattle.job_run.specs.Protections.{IsProtectionFor, IsSuppressedRelease}
 use Rattle.job_run.specs.Puts.{AllWhole}
 use Rattle.job_run.specs.PutReleases.{Releases}
@@ -78,11 +83,11 @@ use Rattle.job_run.specs.declared.put.Release.{Release}
 use Rattle.job_run.specs.declared.report.Report.{Report}
 use Rattle.job_run.specs.declared.report.Report.TheVariants as report
 use Rattle.job_run.specs.declared.report.Summary.{Summary}
-use Rattle.job_run.proofs.GuardingTables.{by-alone, free-permitted}
+use Rattle.job_run.proofs.GuardingTables.{guarded-set}
 use Rattle.job_run.proofs.JobsRead.{described-read, inputs-read, job-read, no-fault}
 use Rattle.job_run.proofs.KnownCells.{known-same, knows-some, unknown-same}
-use Rattle.job_run.proofs.PromisedCells.{IsOf, add-up-hold, as-many-settled, cell-at, hold-add-up, open-protects, settled-at, stays-open}
-use Rattle.job_run.proofs.PromisedTables.{each-needed, permitted-set, permitted-so, protects-each, tables-show, viewed-at}
+use Rattle.job_run.proofs.PromisedCells.{IsOf, add-up-hold, as-many-settled, entry-in, hold-add-up, open-protects, settled-at, some-same}
+use Rattle.job_run.proofs.PromisedTables.{needs-each, permitted-set, permitted-so, protects-each, tables-show}
 use Rattle.job_run.proofs.PutFiles.{AreHeld, all-held, guarded-names, names, no-file-to-round, plain-names, some-before}
 use Rattle.job_run.proofs.SameSystem.{as-many-cells}
 use Rattle.job_run.proofs.ShownLaws.{truth-at}
@@ -94,6 +99,35 @@ use Rattle.job_run.specs.declared.put.FilePut.{FilePut}
 record AreRead (files : Files) (settled : SettledInputs) : Type 0 where
   priors : priors_of files settled.inputs ≡ Ok settled.priors
   cells : settled_cells settled.inputs settled.priors ≡ Ok settled.cells
+  values : All (λ (row : Row). pos 0 ≤ℤ row.value) settled.inputs.records.rows
+
+-- no value of a record is below 0
+values-from-zero : (scale : ℕ) (trees : List Tree) (rows : List Row) → AllByRecursion (IsRow scale trees) rows → All (λ (row : Row). pos 0 ≤ℤ row.value) rows
+values-from-zero scale trees [] all = All-nil (λ (row : Row). pos 0 ≤ℤ row.value)
+values-from-zero scale trees (row ∷ rows) all = All-cons (λ (one : Row). pos 0 ≤ℤ one.value) row rows all.0.from_zero (values-from-zero scale trees rows all.1)
+
+too-long : (looked : Result (Unit {0}) (ℕ × RowWhy)) (records : Records) → long_file_fault looked ≡ Ok records → ⊥
+too-long (Ok fine) records h = absurd cc
+too-long (Err at) records h = absurd cc
+
+records-within : (layout : Layout) (found : Option (List ℕ)) (records : Records) → records_in layout found ≡ Ok records → AreWithinLimits layout records
+records-within layout None records h = absurd cc
+records-within layout (Some bytes) records h =
+    elim (nat_lt limit (length bytes)) as (λ (b : Bool). ◌≡◌ {A = Result Records Fault} (if b then long_file_fault (fed_of layout (take limit bytes)) else map_fault row_fault (records_of layout bytes)) (Ok records) → AreWithinLimits layout records) [
+      | true ↦ λ g. absurd (too-long (fed_of layout (take limit bytes)) records g)
+      | false ↦ λ g. within_limits layout bytes records (no-fault row_fault (records_of layout bytes) records g)
+    ] h
+
+values-read : (files : Files) (name : List ℕ) (inputs : Inputs) → inputs_of purpose.Release files name ≡ Ok inputs → All (λ (row : Row). pos 0 ≤ℤ row.value) inputs.records.rows
+unfolding inputs_of
+values-read files name inputs h =
+    let described = bind_ok (described_of purpose.Release files name) _ inputs h in
+    let fields = bind_ok (spanning_fields files described.0) _ inputs described.2 in
+    let layout : Layout = layout_of described.0.meta.variables described.0.bound fields.0 in
+    let records = bind_ok (look_at_records files described.0.job.micro layout) _ inputs fields.2 in
+    let within = records-within layout (files described.0.job.micro) records.0 records.1 in
+    let same : record { described = described.0; records = records.0 } ≡ inputs = cc in
+    subst (λ (one : Inputs). All (λ (row : Row). pos 0 ≤ℤ row.value) one.records.rows) same (values-from-zero (scale_of layout.weight) records.0.trees records.0.rows within.rows)
 
 are-read : (files : Files) (name : List ℕ) (settled : SettledInputs) → settled_of purpose.Release files name ≡ Ok settled → AreRead files settled
 unfolding settled_of
@@ -104,7 +138,7 @@ are-read files name settled h =
     let own = bind_ok (settled_cells inputs.0 priors.0) _ settled priors.2 in
     let fine = bind_ok (refuse fault.OutName (overwrites_job name inputs.0.described.job)) _ settled own.2 in
     let same : record { inputs = inputs.0; priors = priors.0; cells = own.0 } ≡ settled = cc in
-    subst (λ (s : SettledInputs). AreRead files s) same (record { priors = priors.1; cells = own.1 })
+    subst (λ (s : SettledInputs). AreRead files s) same (record { priors = priors.1; cells = own.1; values = values-read files name inputs.0 inputs.1 })
 
 settled-so : (rules : Rules) (of : List Figures) (priors : List Prior) (made : List SettledCell) → settle_of rules of priors ≡ Ok made → made ≡ map (λ (cell : Figures × Prior). settled_cell rules cell.0 cell.1) (zip of priors)
 unfolding settle_of
@@ -166,17 +200,32 @@ both-at f g (x ∷ xs) [] k a b one other = absurd cc
 both-at f g (x ∷ xs) (y ∷ ys) zero a b one other = let first : x ≡ a = cc in let second : y ≡ b = cc in ap Some (ap (λ v. f (g v) y) first ∙ ap (f (g a)) second)
 both-at f g (x ∷ xs) (y ∷ ys) (suc k) a b one other = both-at f g xs ys k a b one other
 
+-- a settled cell is what the rules make of the cell with its number
+by-rules : (files : Files) (settled : SettledInputs) → AreRead files settled → (number : ℕ) (name : Name) (prior : Prior) → slice_get (cells settled.inputs) number ≡ Some name → slice_get settled.priors number ≡ Some prior
+    → slice_get settled.cells number ≡ Some (cell_by_rules settled.inputs name prior)
+by-rules files settled are number name prior at stated =
+    let inputs : Inputs = settled.inputs in
+    ap (λ (all : List SettledCell). slice_get all number) (cells-same files settled are)
+    ∙ both-at (settled_cell inputs.described.job.rules) (λ (n : Name). figures_in inputs.records.trees n inputs.records.rows inputs.described.bound.scale) (cells inputs) settled.priors number name prior at stated
+
+-- its truth isn't below 0
+from-zero : (files : Files) (settled : SettledInputs) → AreRead files settled → (number : ℕ) (cell : SettledCell) → slice_get settled.cells number ≡ Some cell → pos 0 ≤ℤ cell.truth
+from-zero files settled are number cell at =
+    let inputs : Inputs = settled.inputs in
+    let inside : number < length settled.cells = slice_get_within settled.cells number cell at in
+    let name = entry-in (cells inputs) number (omega (arith, inside, many-settled files settled are)) in
+    let prior = entry-in settled.priors number (omega (arith, inside, many-settled files settled are, many-priors files inputs (length inputs.described.job.tables) settled.priors are.priors)) in
+    let same : cell_by_rules inputs name.0 prior.0 ≡ cell = some-same (sym (by-rules files settled are number name.0 prior.0 name.1 prior.1) ∙ at) in
+    subst (λ (one : SettledCell). pos 0 ≤ℤ one.truth) same (truth_from_zero inputs.records.trees name.0 inputs.records.rows are.values)
+
 -- the cells are by the rules, one for each
 are-cells : (files : Files) (settled : SettledInputs) → AreRead files settled → HasCellsByRules settled
-are-cells files settled are =
-    let inputs : Inputs = settled.inputs in
-    record {
-      one_each = many-settled files settled are;
-      stated_each = many-priors files inputs (length inputs.described.job.tables) settled.priors are.priors;
-      by_rules = λ number name prior at stated.
-          (ap (λ (all : List SettledCell). slice_get all number) (cells-same files settled are)
-          ∙ both-at (settled_cell inputs.described.job.rules) (λ (n : Name). figures_in inputs.records.trees n inputs.records.rows inputs.described.bound.scale) (cells inputs) settled.priors number name prior at stated);
-    }
+are-cells files settled are = record {
+  one_each = many-settled files settled are;
+  stated_each = many-priors files settled.inputs (length settled.inputs.described.job.tables) settled.priors are.priors;
+  by_rules = by-rules files settled are;
+  from_zero = from-zero files settled are;
+}
 
 -- the cells of a protection are those of the inputs that were read
 is-of : (files : Files) (settled : SettledInputs) (outcome : _) → AreRead files settled → (its : IsProtectionFor settled outcome) → IsOf settled its.system its.job.cells
@@ -217,109 +266,10 @@ protected-tables files out name settled release old new read sound whole told no
         permitted = permitted-set settled its.system its.job.cells flags of set.each_flag set.protecting.permitted;
         protects = protects-each settled its.system its.job.cells flags of set.protecting.protects;
       };
-      needed = each-needed settled its.system its.job.cells flags _ is.certificate.needs of set.each_flag its.comes_to.verdict.1;
+      needed = needs-each settled its.system its.job.cells flags _ is.certificate.needs of set.each_flag its.comes_to.verdict.1;
     }
 
 -- ---- a release that guards
-
-or-true : (b : Bool) → (b || true) ≡ true
-or-true true = refl
-or-true false = refl
-
-or-both : (a b c : Bool) → ((a || b) || c) ≡ (a || (b || c))
-or-both true b c = refl
-or-both false b c = refl
-
-hidden-among : (flags : List Bool) (cells : List ℕ) (k : ℕ) → k < length flags → is_hidden (hide_cells flags cells) k ≡ (is_hidden flags k || list_any (λ one. one == k) cells)
-hidden-among flags [] k inside = sym (or_false (is_hidden flags k))
-  where
-    or_false : (b : Bool) → (b || false) ≡ b
-    or_false true = refl
-    or_false false = refl
-hidden-among flags (cell ∷ cells) k inside =
-    hidden-among (hide flags cell) cells k (omega (arith, inside, length-set flags cell true))
-    ∙ ap (λ b. b || list_any (λ one. one == k) cells) here
-    ∙ or-both (is_hidden flags k) (cell == k) (list_any (λ one. one == k) cells)
-  where
-    here : is_hidden (hide flags cell) k ≡ (is_hidden flags k || (cell == k))
-    here = elim (same_or_other k cell) [
-      | inl same ↦
-          let test : (cell == k) ≡ true = (Decides-eqb cell k).1 (sym same) in
-          subst (λ m. is_hidden (hide flags m) k ≡ true) same (hidden_here flags k inside) ∙ sym (ap (λ b. is_hidden flags k || b) test ∙ or-true (is_hidden flags k))
-      | inr other ↦
-          let test : (cell == k) ≡ false = grind (arith, nat_tests, other) in
-          hidden_other flags cell k other ∙ sym (ap (λ b. is_hidden flags k || b) test ∙ nothing (is_hidden flags k))
-    ]
-      where
-        nothing : (b : Bool) → (b || false) ≡ b
-        nothing true = refl
-        nothing false = refl
-
--- a number that is the same as one of a list stands in it
-listed-at : (all : List ℕ) (number : ℕ) → list_any (λ one. one == number) all ≡ true → (at : ℕ) × (slice_get all at ≡ Some number)
-listed-at [] number is = absurd cc
-listed-at (one ∷ all) number is =
-    elim (one == number) as (λ b. (one == number) ≡ b → (b || list_any (λ o. o == number) all) ≡ true → (at : ℕ) × (slice_get (one ∷ all) at ≡ Some number)) [
-      | true ↦ λ same any. (0, ap Some ((Decides-eqb one number).0 same))
-      | false ↦ λ other any. (let rest = listed-at all number any in (suc rest.0, rest.1))
-    ] refl is
-
--- a cell that is hidden only with the extra cells is one of them
-among-extras : (first : List Bool) (extras : List ℕ) (number : ℕ) → number < length first → is_hidden (hide_cells first extras) number ≡ true → is_hidden first number ≡ false → (at : ℕ) × (slice_get extras at ≡ Some number)
-among-extras first extras number inside hidden shown =
-    listed-at extras number (ap (λ (b : Bool). b || list_any (λ one. one == number) extras) (sym shown) ∙ sym (hidden-among first extras number inside) ∙ hidden)
-
-inside-flags : (flags : List Bool) (number : ℕ) → is_hidden flags number ≡ true → number < length flags
-inside-flags [] number is = absurd cc
-inside-flags (flag ∷ flags) zero is = omega arith
-inside-flags (flag ∷ flags) (suc number) is = let more = inside-flags flags number is in omega (arith, more)
-
--- without an extra cell the set doesn't guard
-extra-needed : (files : Files) (settled : SettledInputs) (release : Release) → AreRead files settled → (is : IsGuardedRelease settled release) (number : ℕ)
-    → is_hidden (hide_cells is.hidden_set.hidden.flags is.guarded.extra.cells) number ≡ true → is_hidden is.hidden_set.hidden.flags number ≡ false
-    → ¬ GuardsEachCell settled (without (hide_cells is.hidden_set.hidden.flags is.guarded.extra.cells) number)
-extra-needed files settled release are is number hidden shown guards =
-    let inputs : Inputs = settled.inputs in
-    let its = is.guards.protects in
-    let by = is.guards.guards in
-    let own = is.guards.guards.comes_to.guarding.guarding in
-    let soles = is.guards.guards.soles in
-    let of : IsOf settled its.system its.job.cells = is-of files settled _ are its in
-    let first : List Bool = is.hidden_set.hidden.flags in
-    let extras : List ℕ = is.guarded.extra.cells in
-    let larger : List Bool = hide_cells first extras in
-    let inside : number < length first = let k = inside-flags larger number hidden in omega (arith, k, length-hide_cells first extras) in
-    let listed = among-extras first extras number inside hidden shown in
-    let found = viewed-at (λ (need : ExtraNeed). need.subject) is.guarded.extra.needs listed.0 number (ap (λ (all : List ℕ). slice_get all listed.0) own.each_needed ∙ listed.1) in
-    let need : IsExtraNeed (protected_case its.system its.job.cells) soles larger found.0 = All-found (IsExtraNeed (protected_case its.system its.job.cells) soles larger) is.guarded.extra.needs listed.0 found.0 own.are_needs found.1 in
-    let attack : Attack = attack_of found.0 in
-    let says : AttackSays its.job.cells soles attack = attack_says its.job.cells soles attack need.on in
-    let at = settled-at settled its.system its.job.cells attack.cell says.primary.cell of says.primary.found in
-    let unknown : knows_cell inputs attack.row attack.cell ≡ false = sym (known-same inputs its.job.book soles attack.row attack.cell its.job_is.book by.each_named by.are_soles) ∙ says.unknown in
-    let asked : attack.cell < its.system.cells = omega (arith, of.one_each, slice_get_within its.job.cells attack.cell says.primary.cell says.primary.found) in
-    let left : List Bool = without larger found.0.subject in
-    let open_ : StaysOpen settled (unknown_to inputs attack.row left) attack.cell (view_of_cell says.primary.cell) attack.side =
-    subst (λ (n : ℕ). GuardsEachCell settled (without larger n)) (sym found.2) guards attack.row attack.cell (view_of_cell says.primary.cell) attack.side (record { found = at; kind = says.primary.is_kind }) unknown in
-    let protects : Protects its.system its.job.cells (without_known soles attack.row left) attack.cell attack.side =
-    subst (λ (flags : List Bool). Protects its.system its.job.cells flags attack.cell attack.side) (sym (unknown-same inputs its.job.book soles attack.row left its.job_is.book by.each_named by.are_soles))
-    (open-protects settled its.system its.job.cells (unknown_to inputs attack.row left) attack.cell (view_of_cell says.primary.cell) attack.side of at open_) in
-    no_world its.system its.job.cells (without_known soles attack.row left) attack.cell attack.side found.0.multipliers of.one_each asked need.refutes protects
-
--- against each contributor that doesn't know it a sensitive cell stays open
-each-guarded : (files : Files) (settled : SettledInputs) (release : Release) → AreRead files settled → (is : IsGuardedRelease settled release) → GuardsEachCell settled (hide_cells is.hidden_set.hidden.flags is.guarded.extra.cells)
-each-guarded files settled release are is row number one side sensitive unknown =
-    let inputs : Inputs = settled.inputs in
-    let its = is.guards.protects in
-    let by = is.guards.guards in
-    let soles = is.guards.guards.soles in
-    let of : IsOf settled its.system its.job.cells = is-of files settled _ are its in
-    let larger : List Bool = hide_cells is.hidden_set.hidden.flags is.guarded.extra.cells in
-    let at = cell-at settled its.system its.job.cells number one of sensitive.found in
-    let kind = ap (λ (c : SettledCell). c.kind) at.view ∙ sensitive.kind in
-    let known = known-same inputs its.job.book soles row number its.job_is.book by.each_named by.are_soles ∙ unknown in
-    stays-open settled its.system its.job.cells (unknown_to inputs row larger) number one side of sensitive.found
-    (subst (λ (flags : List Bool). Protects its.system its.job.cells flags number side) (unknown-same inputs its.job.book soles row larger its.job_is.book by.each_named by.are_soles)
-    (by-alone settled release is row number at.cell side at.found kind known (list_any (is_sole row) soles) refl))
 
 guarded-tables : (files out : Files) (name : List ℕ) (settled : SettledInputs) (release : Release) (old new : TrayState) → settled_of purpose.Release files name ≡ Ok settled → IsSoundJob settled.inputs.described
     → AllWhole release.puts old new → new.files ≡ Some out → IsGuardedRelease settled release → GuardedTables settled out
@@ -327,37 +277,32 @@ guarded-tables files out name settled release old new read sound whole told is =
     let inputs : Inputs = settled.inputs in
     let its = is.guards.protects in
     let by = is.guards.guards in
-    let own = is.guards.guards.comes_to.guarding.guarding in
     let set = is.guards.protects.comes_to.verdict.0 in
-    let are : AreRead files settled = are-read files name settled read in
-    let of : IsOf settled its.system its.job.cells = is-of files settled _ are its in
+    let of : IsOf settled its.system its.job.cells = is-of files settled _ (are-read files name settled read) its in
     let first : List Bool = is.hidden_set.hidden.flags in
-    let extras : List ℕ = is.guarded.extra.cells in
-    let larger : List Bool = hide_cells first extras in
+    let extra : Extra = is.guarded.extra in
     let shown : Name → Option ℤ = shown_in inputs is.guarded.hidden.flags in
-    let puts : List FilePut = guarded_puts inputs is.guards.line.file shown is.certificate is.guarded.extra in
-    let held : AreHeld out puts = held-puts files out name settled puts old new read (guarded-names inputs is.guards.line shown is.certificate is.guarded.extra sound.job.outputs is.guards.named)
+    let puts : List FilePut = guarded_puts inputs is.guards.line.file shown is.certificate extra in
+    let held : AreHeld out puts = held-puts files out name settled puts old new read (guarded-names inputs is.guards.line shown is.certificate extra sound.job.outputs is.guards.named)
     (subst (λ (all : List FilePut). AllWhole all old new) is.puts whole) told in
-    record {
-      hidden = larger;
-      tables = record {
-        shown = tables-show out inputs (shown_in inputs larger) sound.job.outputs (subst (λ (flags : List Bool). AreHeld out (tables_from inputs (shown_in inputs flags) 0 inputs.described.job.tables inputs.described.job.outputs)) by.comes_to.flags_are held.1.1);
-        permitted = permitted-set settled its.system its.job.cells larger of (length-hide_cells first extras ∙ set.each_flag) (free-permitted its.job.cells first extras set.each_flag own.are_free set.protecting.permitted);
-        protects = protects-each settled its.system its.job.cells larger of (λ number cell side at primary. protects_more its.system its.job.cells first larger number side (within_cells first extras) (set.protecting.protects number cell side at primary));
-      };
-      guards = each-guarded files settled release are is;
-      core = first;
-      core_within = (within_cells first extras).hides;
-      core_permitted = permitted-set settled its.system its.job.cells first of set.each_flag set.protecting.permitted;
-      core_protects = protects-each settled its.system its.job.cells first of set.protecting.protects;
-      core_needed = each-needed settled its.system its.job.cells first _ is.certificate.needs of set.each_flag its.comes_to.verdict.1;
-      extra_needed = λ number hidden shown. extra-needed files settled release are is number hidden shown;
-    }
+    guarded-set settled its.system its.job.cells by.soles first extra out
+    (record {
+      of = of;
+      book = its.job.book;
+      book_is = its.job_is.book;
+      each_named = by.each_named;
+      are_soles = by.are_soles;
+      each_flag = set.each_flag;
+      protecting = set.protecting;
+      guarding = by.comes_to.guarding.guarding;
+    })
+    (tables-show out inputs (shown_in inputs (hide_cells first extra.cells)) sound.job.outputs (subst (λ (flags : List Bool). AreHeld out (tables_from inputs (shown_in inputs flags) 0 inputs.described.job.tables inputs.described.job.outputs)) by.comes_to.flags_are held.1.1))
+    (needs-each settled its.system its.job.cells first _ is.certificate.needs of set.each_flag its.comes_to.verdict.1)
 
 -- ---- a release that rounds
 
 -- a rounding for the inputs is one of their cells
-rounded-so : (inputs : Inputs) (base : ℤ) (values : List ℤ) → IsRoundingFor inputs base values → AreRounded inputs base values
+pub rounded-so : (inputs : Inputs) (base : ℤ) (values : List ℤ) → IsRoundingFor inputs base values → AreRounded inputs base values
 rounded-so inputs base values is = record {
   one_each = is.rounding.each ∙ as-many-cells inputs is.system is.system_is;
   adjacent = λ number name at. (
@@ -402,7 +347,7 @@ tables-by files out name summary old new has told None hides is = hiding-tables 
 tables-by files out name summary old new has told (Some base) rounds is = rounded-tables files out name has.settled has.release base old new has.read has.sound has.put told rounds is
 
 -- what is said of settled inputs that were read is true of what was read
-true-of : (Says : SettledInputs → Type 0) (files : Files) (name : List ℕ) (settled : SettledInputs) → settled_of purpose.Release files name ≡ Ok settled → Says settled → IsTrueOf (settled_of purpose.Release files name) Says
+pub true-of : (Says : SettledInputs → Type 0) (files : Files) (name : List ℕ) (settled : SettledInputs) → settled_of purpose.Release files name ≡ Ok settled → Says settled → IsTrueOf (settled_of purpose.Release files name) Says
 true-of Says files name settled read says =
     let true_of : HasCellsByRules settled × Says settled = (are-cells files settled (are-read files name settled read), says) in
     subst (λ (o : Result SettledInputs Fault). IsOkAnd o (λ (s : SettledInputs). HasCellsByRules s × Says s)) (sym read) true_of
@@ -466,12 +411,18 @@ true-by P Says files name more (Err why) is known = known
 
 -- ---- the promise
 
+-- no answer of which nothing is an end
+no-end : (outcome : Result SettledInputs Fault) → IsOkAnd outcome (λ settled. ⊥) → ⊥
+no-end (Ok settled) is = is
+no-end (Err why) is = is
+
 pub promise-kept : (name : List ℕ) (answer : Report) (old new : ShelfState) (before after : TrayState) → IsReleaseRunOf name answer old new before after
     → WhereTold old.files (λ fs. WhereTold after.files (λ out. IsPromiseOf answer (settled_of purpose.Release fs name) out))
 promise-kept name answer old new before after is fs held out told = by answer refl (is.run.told fs held)
   where
     by : (one : Report) → answer ≡ one → AgreesWith IsReleaseEnd one (settled_of purpose.Release fs name) → IsPromiseOf one (settled_of purpose.Release fs name) out
     by (report.Released summary) same agrees = promised-tables fs out name summary before after (is.released fs held summary same) told
+    by report.Accepted same agrees = absurd (no-end (settled_of purpose.Release fs name) agrees)
     by (report.Cannot number side multipliers) same agrees =
         true-by (λ settled. IsProtectionFor settled (protection.Cannot (record { cell = number; side = side; multipliers = multipliers }))) (λ settled. CantBeProtected settled number side) fs name
         (λ settled are its. cant-protect fs settled number side multipliers are its) (settled_of purpose.Release fs name) refl agrees

@@ -119,7 +119,7 @@ level-reached : (side : Side) (cell : Cell) (den move : ℤ) → ReachesLevel si
 level-reached Above cell den move off = off
 level-reached Below cell den move off = off
 
-some-same : {A : Type 0} {a b : A} → ◌≡◌ {A = Option A} (Some a) (Some b) → a ≡ b
+pub some-same : {A : Type 0} {a b : A} → ◌≡◌ {A = Option A} (Some a) (Some b) → a ≡ b
 some-same {A} {a} {b} is = let same : a ≡ b = cc in same
 
 -- a cell that a hidden set protects to a side stays open there

@@ -1,5 +1,5 @@
 -- What a hiding release promises of its tables: they show all but a hidden set that protects and is needed.
-use Rattle.std.proofs.Common.{◌≡◌, ℕ, zero, suc, ◌+◌, ◌<◌, ◌&&◌, not, Bool, true, false, if◌then◌else◌, List, [], ◌∷◌, length, map, slice_get, Option, Some, arith, refl, ap, sym, subst, ◌∙◌, ℤ}
+use Rattle.std.proofs.Common.{◌≡◌, ℕ, zero, suc, ◌+◌, ◌<◌, ◌&&◌, not, Bool, true, false, if◌then◌else◌, List, [], ◌∷◌, length, map, slice_get, slice_index_or, All, Option, Some, arith, refl, ap, sym, subst, ◌∙◌, ℤ}
 use Rattle.std.proofs.lemmas.Option.{slice_get_within}
 use Rattle.sdc_base.proofs.WeakDual.{All-found}
 use Rattle.sdc_base.specs.HiddenSets.{is_hidden, IsPermitted}
@@ -14,6 +14,7 @@ use Rattle.sdc_base.specs.declared.system.System.{System}
 use Rattle.worlds.proofs.RefutationLaws.{no_world}
 use Rattle.worlds.specs.declared.refuted.Refuted.{Refuted}
 use Rattle.repair.specs.HidingOrder.{protected_case}
+use Rattle.cert_check.specs.Acceptance.{IsNeeded}
 use Rattle.repair.specs.Needs.{IsNeed, others_hidden}
 use Rattle.repair.specs.Verdicts.{AreNeeds}
 use Rattle.repair.proofs.Flags.{by_test}
@@ -140,9 +141,9 @@ hidden-inside (flag ∷ flags) zero is = omega arith
 hidden-inside (flag ∷ flags) (suc number) is = let more = hidden-inside flags number is in omega (arith, more)
 
 -- without any one hidden cell that isn't sensitive, some sensitive cell doesn't stay open
-pub each-needed : (settled : SettledInputs) (system : System) (cells : List Cell) (flags larger : List Bool) (needs : List Refuted) → IsOf settled system cells → length flags ≡ length cells
-    → AreNeeds (protected_case system cells) flags larger needs → NeedsEachCell settled flags
-each-needed settled system cells flags larger needs is each are number hidden =
+pub each-needed : (settled : SettledInputs) (system : System) (cells : List Cell) (flags : List Bool) (needs : List Refuted) → IsOf settled system cells → length flags ≡ length cells
+    → map (λ (need : Refuted). need.subject) needs ≡ others_hidden flags 0 cells → All (IsNeeded system cells flags) needs → NeedsEachCell settled flags
+each-needed settled system cells flags needs is each listed_all are number hidden =
     let inside : number < length cells = let k = hidden-inside flags number hidden.hidden_is in omega (arith, each, k) in
     let found = entry-in cells number inside in
     let other : is_primary found.0.kind ≡ false = by_test (is_primary found.0.kind) (is_primary found.0.kind ≡ false)
@@ -150,9 +151,16 @@ each-needed settled system cells flags larger needs is each are number hidden =
     (λ no. no) in
     let zero_more : number ≡ 0 + number = omega arith in
     let listed = among-others flags 0 cells number found.0 found.1 (ap (is_hidden flags) (sym zero_more) ∙ hidden.hidden_is) other in
-    let its = viewed-at (λ (need : Refuted). need.subject) needs listed.0 number (ap (λ (all : List ℕ). slice_get all listed.0) are.each_needed ∙ listed.1 ∙ ap Some (sym zero_more)) in
-    let need : IsNeed (protected_case system cells) flags larger its.0 = All-found (IsNeed (protected_case system cells) flags larger) needs listed.0 its.0 are.are_needs its.1 in
+    let its = viewed-at (λ (need : Refuted). need.subject) needs listed.0 number (ap (λ (all : List ℕ). slice_get all listed.0) listed_all ∙ listed.1 ∙ ap Some (sym zero_more)) in
+    let need : IsNeeded system cells flags its.0 = All-found (IsNeeded system cells flags) needs listed.0 its.0 are its.1 in
     let asked : its.0.cell < system.cells = omega (arith, is.one_each, slice_get_within cells its.0.cell need.cell_primary.cell need.cell_primary.found) in
     subst (λ (n : ℕ). ¬ ProtectsEachCell settled (without flags n)) {x = its.0.subject} its.2
     (not-each settled system cells (without flags its.0.subject) its.0.cell need.cell_primary.cell its.0.side is need.cell_primary.found need.cell_primary.is_kind
     (no_world system cells (without flags its.0.subject) its.0.cell its.0.side its.0.multipliers is.one_each asked need.refutes))
+
+-- so it is with the needs of a verdict
+pub needs-each : (settled : SettledInputs) (system : System) (cells : List Cell) (flags larger : List Bool) (needs : List Refuted) → IsOf settled system cells → length flags ≡ length cells
+    → AreNeeds (protected_case system cells) flags larger needs → NeedsEachCell settled flags
+needs-each settled system cells flags larger needs is each are =
+    each-needed settled system cells flags needs is each are.each_needed
+    (λ k d within. (let need : IsNeed (protected_case system cells) flags larger (slice_index_or needs k d) = are.are_needs k d within in record { cell_primary = need.cell_primary; refutes = need.refutes }))

@@ -1,6 +1,7 @@
--- The promise of a run: what its answer says of the tables that it put in the tray, or of why it put none, told by
--- records, cells and sums alone (hiding follows the handbook, secondary suppression; contributors and controlled
--- rounding are own). How files of a job are read as settled inputs is a page of its own: `settled_of`.
+-- The promise of a run and of a check: what the answer says of the tables that a run put in the tray, of those that a
+-- check found on the shelf, or of why there are none, told by records, cells and sums alone (hiding follows the handbook,
+-- secondary suppression; contributors and controlled rounding are own). How files of a job are read as settled inputs is
+-- a page of its own: `settled_of`.
 --
 -- Cells have names, and numbers by their order in `cells inputs`. In the settled inputs each has a truth, which is its
 -- records' weighted sum, the bounds that are stated of it, `low` and `high`, its protection levels above and below,
@@ -44,13 +45,15 @@ cell_by_rules inputs name prior =
     settled_cell inputs.described.job.rules
     (figures_in inputs.records.trees name inputs.records.rows inputs.described.bound.scale) prior
 
--- there is a settled cell for each cell, and it is the one that the rules make of it
+-- There is a settled cell for each cell, and it is the one that the rules make of it; its truth isn't below 0, so a table
+-- that shows it shows all of it.
 pub record HasCellsByRules (settled : SettledInputs) : Type 0 where
   pub one_each : length settled.cells ≡ length (cells settled.inputs)
   pub stated_each : length settled.priors ≡ length (cells settled.inputs)
   pub by_rules : (number : ℕ) (name : Name) (prior : Prior) → slice_get (cells settled.inputs) number ≡ Some name
       → slice_get settled.priors number ≡ Some prior
       → slice_get settled.cells number ≡ Some (cell_by_rules settled.inputs name prior)
+  pub from_zero : (number : ℕ) (cell : SettledCell) → slice_get settled.cells number ≡ Some cell → pos 0 ≤ℤ cell.truth
 
 -- the cell with this number is this one, and it is sensitive
 pub record IsSensitive (settled : SettledInputs) (number : ℕ) (cell : SettledCell) : Type 0 where
@@ -244,13 +247,15 @@ AreTablesOf settled tray =
 abbrev pub IsTrueOf : Result SettledInputs Fault → (SettledInputs → Type 0) → Type 0
 IsTrueOf job Says = IsOkAnd job (λ settled. HasCellsByRules settled × Says settled)
 
--- What a run's answer promises of the job, by what reading its files came to, and of the files in the tray after the
--- run. Nothing is promised here of a summary's numbers and of multipliers, and by other answers nothing of tables.
+-- What an answer promises of the job, by what reading its files came to, and of the files that have the names of its
+-- tables: a release that a run put, those in the tray after it; one that a check accepts, those on the shelf, whoever
+-- made them. Nothing is promised here of a summary's numbers and of multipliers, and by other answers nothing of tables.
 abbrev pub IsPromiseOf : Report → Result SettledInputs Fault → Files → Type 0
-IsPromiseOf (report.Released summary) job tray = IsTrueOf job (λ settled. AreTablesOf settled tray)
-IsPromiseOf (report.Cannot number side multipliers) job tray =
+IsPromiseOf (report.Released summary) job tables = IsTrueOf job (λ settled. AreTablesOf settled tables)
+IsPromiseOf report.Accepted job tables = IsTrueOf job (λ settled. AreTablesOf settled tables)
+IsPromiseOf (report.Cannot number side multipliers) job tables =
     IsTrueOf job (λ settled. CantBeProtected settled number side)
-IsPromiseOf (report.CannotAgainst row number side multipliers) job tray =
+IsPromiseOf (report.CannotAgainst row number side multipliers) job tables =
     IsTrueOf job (λ settled. CantBeGuarded settled row number side)
-IsPromiseOf report.NoRounding job tray = IsTrueOf job CantBeRounded
-IsPromiseOf other job tray = Unit {0}
+IsPromiseOf report.NoRounding job tables = IsTrueOf job CantBeRounded
+IsPromiseOf other job tables = Unit {0}

@@ -70,6 +70,11 @@ pub fn run<S: Shelf, T: Tray>(alloc: Global, words: &[Text], shelf: &mut S, tray
         (λ fs. WhereTold (T.state tray.new).files
         (λ out. IsPromiseOf result (settled_of purpose.Release fs name) out))) }
 
+    // What `check JOB` promises where it accepts: the same of the tables that stand under the job's names, whoever made
+    // them.
+    ensures accepted { WhereTold (commands.check_job words.now) (λ name. WhereTold (S.state shelf.old).files
+        (λ fs. IsPromiseOf result (settled_of purpose.Release fs name) fs)) }
+
     // Usage comes exactly where the words are none of the forms that are built.
     ensures usage { (result ≡ Report.Usage) ↔ AreUsage words.now }
 
