@@ -1,15 +1,17 @@
-"""Compares the files of an accepted release with its seal, where one lies beside the job (manual: Seal a release)."""
+"""Compares the files of an accepted release with its seal, where one lies beside the job (manual:
+Seal a release)."""
 import hashlib
 import os
 import re
 from typing import Dict, List
 
-from job import read_job
-from metadata import bind, read_metadata
-from texts import NotAccepted, Unreadable, lines, printable, read_file
+from argus_outside.job import read_job
+from argus_outside.metadata import bind, read_metadata
+from argus_outside.texts import NotAccepted, Unreadable, lines, printable, read_file
 
 MARK = b"# argus seal 1"
-# A line that names a file, as sha256sum writes it: with \ in front where the name has one, which is doubled then.
+# A line that names a file, as sha256sum writes it: with \ in front where the name has one, which is
+# doubled then.
 LINE = re.compile(rb"(\\?)([0-9a-f]{64})  (.+)")
 
 
@@ -19,14 +21,19 @@ def seal_of(job: bytes) -> bytes:
 
 
 def compare(job: bytes) -> str:
-    """In words, that every file of the job is as its seal says; nothing where there is no seal. Raises the first fault."""
+    """In words, that every file of the job is as its seal says; nothing where there is no seal.
+
+    Raises the first fault.
+    """
     name = seal_of(job)
     if not os.path.lexists(name):
         return ""
     sums = _read(name)
     for file in _files(job):
         if file not in sums:
-            raise NotAccepted("NotSealed", "the seal %s has no %s" % (printable(name), printable(file)), "not sealed")
+            raise NotAccepted("NotSealed",
+                              "the seal %s has no %s" % (printable(name), printable(file)),
+                              "not sealed")
     for file, expected in sums.items():
         if _sum(file) != expected:
             words = "%s isn't the file that %s names" % (printable(file), printable(name))
@@ -51,10 +58,12 @@ def _files(job: bytes) -> List[bytes]:
     """All files that a job reads or writes, itself first."""
     read = read_job(read_file(job, "job"))
     named = [file for _, file in read.files.values()]
-    spanning = bind(read, read_metadata(read_file(read.files["OPENMETADATA"][1], "metadata"))).spanning
+    spanning = bind(read, read_metadata(read_file(read.files["OPENMETADATA"][1],
+                                                  "metadata"))).spanning
     lists = [file for variable in spanning for file in (variable.codes, variable.hierarchy) if file]
     written = [file for _, file in read.written()]
-    return list(dict.fromkeys([job] + named + lists + [prior.file for prior in read.priors] + written))
+    return list(
+        dict.fromkeys([job] + named + lists + [prior.file for prior in read.priors] + written))
 
 
 def _sum(file: bytes) -> str:

@@ -1,28 +1,32 @@
-"""Metadata, code lists and hierarchies: where a variable stands in a record, and the tree of its codes (manual: Metadata; Hierarchies and code lists)."""
+"""Metadata, code lists and hierarchies: where a variable stands in a record, and the tree of its
+codes (manual: Metadata; Hierarchies and code lists).
+"""
 import re
-from typing import Dict, List, NamedTuple, Optional, Tuple
+from typing import Callable, Dict, List, NamedTuple, Optional, Tuple
 
-from job import LEVELS, Job, fault as job_fault
-from texts import BLANKS, FILE_NAME, Unreadable, lines, whole, whole_in
+from argus_outside.job import LEVELS, Job, fault as job_fault
+from argus_outside.texts import BLANKS, FILE_NAME, Unreadable, lines, whole, whole_in
 
-CODES = 5000            # codes of a variable besides the total
+CODES = 5000  # codes of a variable besides the total
 PASSED_OVER = (b"REQUEST", b"HOLDING", b"DISTANCE")
-KEYWORDS = PASSED_OVER + (b"RECODEABLE", b"RECODABLE", b"NUMERIC", b"DECIMALS", b"WEIGHT", b"CODELIST", b"HIERARCHICAL",
-                          b"HIERLEVELS", b"HIERCODELIST", b"HIERLEADSTRING", b"TOTCODE")
+KEYWORDS = PASSED_OVER + (b"RECODEABLE", b"RECODABLE", b"NUMERIC", b"DECIMALS", b"WEIGHT",
+                          b"CODELIST", b"HIERARCHICAL", b"HIERLEVELS", b"HIERCODELIST",
+                          b"HIERLEADSTRING", b"TOTCODE")
 
 WORD = re.compile(rb'"([^"]*)"|([^ \t]+)', re.S)
 
 
 class Variable:
     """A variable of the metadata. Positions and widths are bytes; the first position is 1."""
-
-    def __init__(self, line: int, name: bytes, first: int, width: int, missing: List[bytes]) -> None:
-        self.line, self.name, self.first, self.width, self.missing = line, name, first, width, missing
+    def __init__(self, line: int, name: bytes, first: int, width: int,
+                 missing: List[bytes]) -> None:
+        self.line, self.name, self.first, self.width = line, name, first, width
+        self.missing = missing
         self.numeric = self.weight = False
         self.decimals = 0
         self.total, self.lead = b"Total", b"@"
-        self.codes: Optional[bytes] = None               # name of the code list
-        self.hierarchy: Optional[bytes] = None           # name of the hierarchy file
+        self.codes: Optional[bytes] = None  # name of the code list
+        self.hierarchy: Optional[bytes] = None  # name of the hierarchy file
         self.levels: List[int] = []
         self.keywords: List[bytes] = []
 
@@ -33,11 +37,14 @@ class Variable:
 
 
 class Bound(NamedTuple):
-    """A job's variables: spanning ones in metadata order, each table as places in that list, the response and the weight."""
+    """A job's variables: spanning ones in metadata order, each table as places in that list, the
+    response and the weight.
+    """
     spanning: List[Variable]
-    numbers: List[int]                   # of the spanning variables in the metadata, from 1
+    numbers: List[int]  # of the spanning variables in the metadata, from 1
     tables: List[List[int]]
-    depths: List[List[int]]              # per table and variable of it, the level down to which its tree is taken
+    depths: List[
+        List[int]]  # per table and variable of it, the level down to which its tree is taken
     response: Variable
     weight: Optional[Variable]
 
@@ -53,7 +60,10 @@ def fault(line: int, kind: str, words: str) -> Unreadable:
 
 
 def words_of(text: bytes) -> List[bytes]:
-    """Words: in quotes, or a run without blanks. A quote without a second one in the line is part of its run."""
+    """Words: in quotes, or a run without blanks.
+
+    A quote without a second one in the line is part of its run.
+    """
     return [run or quoted for quoted, run in WORD.findall(text)]
 
 
@@ -65,7 +75,8 @@ def _variable(number: int, text: bytes, before: List[Variable]) -> Variable:
     first = whole_in(rest[0], 1, 1000) if len(rest) > 1 else None
     width = whole_in(rest[1], 1, 255) if len(rest) > 1 else None
     if first is None or width is None or first + width - 1 > 1000:
-        raise fault(number, "BadPlace", "the position or the width is missing, no number, or out of range")
+        raise fault(number, "BadPlace",
+                    "the position or the width is missing, no number, or out of range")
     if len(rest) > 4:
         raise fault(number, "BadValue", "a variable has at most two missing codes")
     if any(variable.name == name for variable in before):
@@ -76,9 +87,12 @@ def _variable(number: int, text: bytes, before: List[Variable]) -> Variable:
 
 
 def _levels(arguments: List[bytes], width: int) -> Optional[List[int]]:
-    """The widths of HIERLEVELS: zeros at the end add no level, at most nine, and they add up to the field's width."""
-    numbers = [whole(word) for word in arguments]
-    if None in numbers:
+    """The widths of HIERLEVELS: zeros at the end add no level, at most nine, and they add up to the
+    field's width.
+    """
+    said = [whole(word) for word in arguments]
+    numbers = [number for number in said if number is not None]
+    if len(numbers) != len(said):
         return None
     while numbers and numbers[-1] == 0:
         numbers.pop()
@@ -87,7 +101,9 @@ def _levels(arguments: List[bytes], width: int) -> Optional[List[int]]:
 
 
 def _set(variable: Variable, keyword: bytes, arguments: List[bytes]) -> bool:
-    """Puts a keyword's meaning into its variable; False where the arguments aren't as they should be."""
+    """Puts a keyword's meaning into its variable; False where the arguments aren't as they should
+    be.
+    """
     if keyword in PASSED_OVER:
         return True
     if keyword == b"HIERLEVELS":
@@ -127,11 +143,14 @@ def _keyword(number: int, text: bytes, variables: List[Variable]) -> None:
     if not variables:
         raise fault(number, "BadName", "a keyword comes before the first variable")
     variable = variables[-1]
-    again = keyword in variable.keywords or keyword == b"WEIGHT" and any(v.weight for v in variables)
+    again = keyword in variable.keywords or keyword == b"WEIGHT" and any(v.weight
+                                                                         for v in variables)
     if not _set(variable, keyword, words_of(text[close + 1:])):
-        raise fault(number, "BadValue", "what follows the keyword isn't as it should be, or is out of range")
+        raise fault(number, "BadValue",
+                    "what follows the keyword isn't as it should be, or is out of range")
     if again:
-        raise fault(number, "Twice", "the variable has this keyword already, or another variable is the weight")
+        raise fault(number, "Twice",
+                    "the variable has this keyword already, or another variable is the weight")
     if keyword not in PASSED_OVER:
         variable.keywords.append(keyword)
 
@@ -160,11 +179,11 @@ def bind(job: Job, variables: List[Variable]) -> Bound:
     by_name = {variable.name: variable for variable in variables}
     named = {name for table in job.tables for name in table.variables}
     spanning = [variable for variable in variables if variable.name in named]
-    found: List[Tuple[int, int, str, str]] = []           # line, place of the kind in its order, kind, words
+    found: List[Tuple[int, int, str, str]] = []  # line, place of the kind in its order, kind, words
     for table in job.tables:
-        asked = [by_name.get(name) for name in table.variables]
+        asked = [by_name[name] for name in table.variables if name in by_name]
         response = by_name.get(table.response)
-        if None in asked or response is None:
+        if len(asked) != len(table.variables) or response is None:
             found.append((table.line, 0, "NoSuchVariable", "the metadata have no such variable"))
         elif any(variable.numeric for variable in asked):
             found.append((table.line, 1, "NotSpanning", "a number can't span a table"))
@@ -173,10 +192,14 @@ def bind(job: Job, variables: List[Variable]) -> Bound:
     weights = [variable for variable in variables if variable.weight]
     if job.weighted and not weights:
         found.append((job.lines_of["SAFETYRULE"], 3, "NoWeight", "the metadata have no weight"))
-    read = [name for variable in spanning for name in (variable.codes, variable.hierarchy) if name is not None]
+    read = [
+        name for variable in spanning for name in (variable.codes, variable.hierarchy)
+        if name is not None
+    ]
     for line, name in job.written():
         if name in read:
-            found.append((line, 4, "SameName", "the line writes a file that the metadata name for a spanning variable"))
+            found.append((line, 4, "SameName",
+                          "the line writes a file that the metadata name for a spanning variable"))
     if found:
         line, _, kind, words = min(found)
         raise job_fault(line, kind, words)
@@ -184,13 +207,17 @@ def bind(job: Job, variables: List[Variable]) -> Bound:
     numbers = [1 + variables.index(variable) for variable in spanning]
     tables = [[places[name] for name in table.variables] for table in job.tables]
     said = {(depth.table, depth.variable): depth.level for depth in job.depths}
-    depths = [[said.get((number, name), LEVELS) for name in table.variables] for number, table in enumerate(job.tables, 1)]
-    return Bound(spanning, numbers, tables, depths, by_name[job.tables[0].response], weights[0] if job.weighted else None)
+    depths = [[said.get((number, name), LEVELS) for name in table.variables]
+              for number, table in enumerate(job.tables, 1)]
+    return Bound(spanning, numbers, tables, depths, by_name[job.tables[0].response],
+                 weights[0] if job.weighted else None)
 
 
 class Tree:
-    """Codes in preorder, each with its parent. Place 0 is the total; children stand in the order of the tree."""
+    """Codes in preorder, each with its parent.
 
+    Place 0 is the total; children stand in the order of the tree.
+    """
     def __init__(self, total: bytes) -> None:
         self.codes, self.parents, self.depths = [total], [0], [0]
         self.children: List[List[int]] = [[]]
@@ -207,18 +234,9 @@ class Tree:
         self.places[code] = place
         return place
 
-    def above(self, place: int) -> List[int]:
-        """The place itself and all above it, up to the total."""
-        found = [place]
-        while place:
-            place = self.parents[place]
-            found.append(place)
-        return found
-
 
 class CutTree:
     """The codes of a tree that a table has: those down to a level, by their places in the tree."""
-
     def __init__(self, tree: Tree, level: int) -> None:
         self.tree, self.level = tree, level
         self.places = [place for place, depth in enumerate(tree.depths) if depth <= level]
@@ -231,13 +249,18 @@ class CutTree:
         """The codes right below; a code on the last level has none."""
         return self.tree.children[place] if self.tree.depths[place] < self.level else []
 
-    def above(self, place: int) -> List[int]:
-        """Of the place itself and all above it, those that the table has."""
-        return [at for at in self.tree.above(place) if self.has(at)]
+    def reached(self, place: int) -> int:
+        """The place itself where the table has it, and else the one above it on the table's last
+        level.
+        """
+        while not self.has(place):
+            place = self.tree.parents[place]
+        return place
 
 
 def read_codes(data: bytes, total: bytes, where: str) -> List[bytes]:
-    """A code list's codes: what stands before the first comma, without one pair of quotes round it."""
+    """A code list's codes: what stands before the first comma, without one pair of quotes round it.
+    """
     codes: Dict[bytes, None] = {}
     for number, line in enumerate(lines(data), 1):
         code = line.split(b",", 1)[0].strip(BLANKS)
@@ -250,8 +273,14 @@ def read_codes(data: bytes, total: bytes, where: str) -> List[bytes]:
     return list(codes)
 
 
+# Makes a fault of a line: its number, its kind, and words.
+Fault = Callable[[int, str, str], Unreadable]
+
+
 def read_hierarchy(data: bytes, variable: Variable, where: str) -> Tree:
-    """A hierarchy file: as many leads as the depth below the first level, then the code; missing codes come last."""
+    """A hierarchy file: as many leads as the depth below the first level, then the code; missing
+    codes come last.
+    """
     def bad(number: int, kind: str, words: str) -> Unreadable:
         return Unreadable(where, number, kind, words)
 
@@ -278,7 +307,7 @@ def read_hierarchy(data: bytes, variable: Variable, where: str) -> Tree:
     return tree
 
 
-def _listed(tree: Tree, code: bytes, number: int, bad) -> None:
+def _listed(tree: Tree, code: bytes, number: int, bad: Fault) -> None:
     """The faults of one further code of a hierarchy."""
     if code == tree.codes[0]:
         raise bad(number, "IsTotal", "the code is that of the total")

@@ -1,15 +1,16 @@
-"""Reads a certificate of version 1 or 2, and a contributors' file (manual: The certificate, line by line).
+"""Reads a certificate of version 1 or 2, and a contributors' file (manual: The certificate, line by
+line).
 
-Within a line the kinds of faults are looked for in this order: Shape (words and their number), Number (how a number is spelled,
-and its range), Order (a list that doesn't ascend)."""
+Within a line the kinds of faults are looked for in this order: Shape (words and their number),
+Number (how a number is spelled, and its range), Order (a list that doesn't ascend)."""
 import re
 from typing import Callable, Dict, List, NamedTuple, Optional, Tuple
 
-from texts import Unreadable
+from argus_outside.texts import Unreadable
 
 SPELLED = re.compile(rb"0|-?[1-9][0-9]{0,38}")
 CELL = (1 << 32) - 1
-WIDE = 1 << 127                # numbers lie from -2^127 and below 2^127
+WIDE = 1 << 127  # numbers lie from -2^127 and below 2^127
 SIDES = {b"above": "above", b"below": "below"}
 Pairs = List[Tuple[int, int]]
 
@@ -23,9 +24,11 @@ class Step(NamedTuple):
 
 
 class Refuted(NamedTuple):
-    """A repair or a need: without its subject, the cell can't lie far enough to the side, by multipliers over den."""
+    """A repair or a need: without its subject, the cell can't lie far enough to the side, by
+    multipliers over den.
+    """
     subject: int
-    row: Optional[int]         # of a contributors' need: the record, from 0
+    row: Optional[int]  # of a contributors' need: the record, from 0
     cell: int
     side: str
     den: int
@@ -33,7 +36,9 @@ class Refuted(NamedTuple):
 
 
 class World(NamedTuple):
-    """A complete table for a cell and a side: moves over den by cell; a cell that isn't named doesn't move."""
+    """A complete table for a cell and a side: moves over den by cell; a cell that isn't named
+    doesn't move.
+    """
     cell: int
     side: str
     den: int
@@ -41,8 +46,9 @@ class World(NamedTuple):
 
 
 class Certificate:
-    """What a certificate lists; the contributors' file has its extra cells in `hidden` and its guards in `worlds`."""
-
+    """What a certificate lists; the contributors' file has its extra cells in `hidden` and its
+    guards in `worlds`.
+    """
     def __init__(self) -> None:
         self.method: Tuple[str, int] = ("MOD", 1)
         self.cells = self.relations = 0
@@ -116,7 +122,9 @@ def _step(tokens: List[bytes], into: Certificate) -> None:
 
 def _refuted(tokens: List[bytes], row: bool = False) -> Refuted:
     start = 3 if row else 2
-    _shape(len(tokens) >= start + 3 and tokens[start + 1] in SIDES and all(b":" in token for token in tokens[start + 3:]))
+    _shape(
+        len(tokens) >= start + 3 and tokens[start + 1] in SIDES
+        and all(b":" in token for token in tokens[start + 3:]))
     subject = _number(tokens[1])
     number = _number(tokens[2], 1) - 1 if row else None
     cell, den = _number(tokens[start]), _number(tokens[start + 2], 1, WIDE - 1)
@@ -139,16 +147,29 @@ def _world(tokens: List[bytes], into: Certificate, version: int) -> None:
 
 
 Grammar = Dict[bytes, Tuple[int, Optional[Callable[[List[bytes], Certificate], None]]]]
-ORDER: Grammar = {b"method": (1, _method), b"cells": (2, _count), b"relations": (3, _count), b"hidden": (4, _hidden),
-                  b"step": (5, _step), b"repair": (6, lambda t, c: c.repairs.append(_refuted(t))),
-                  b"need": (7, lambda t, c: c.needs.append(_refuted(t))), b"end": (9, None)}
-EXTRA: Grammar = {b"extra": (4, _hidden), b"need": (7, lambda t, c: c.needs.append(_refuted(t, True))),
-                  b"guard": (8, lambda t, c: _world(t, c, 2)), b"end": (9, None)}
+ORDER: Grammar = {
+    b"method": (1, _method),
+    b"cells": (2, _count),
+    b"relations": (3, _count),
+    b"hidden": (4, _hidden),
+    b"step": (5, _step),
+    b"repair": (6, lambda t, c: c.repairs.append(_refuted(t))),
+    b"need": (7, lambda t, c: c.needs.append(_refuted(t))),
+    b"end": (9, None)
+}
+EXTRA: Grammar = {
+    b"extra": (4, _hidden),
+    b"need": (7, lambda t, c: c.needs.append(_refuted(t, True))),
+    b"guard": (8, lambda t, c: _world(t, c, 2)),
+    b"end": (9, None)
+}
 
 
 def _read(data: bytes, where: str, firsts: Dict[bytes, Grammar], start: int) -> Certificate:
-    """Line by line: stages up to 3 stand once and in turn, stage 4 at most once, the later ones as often as one likes."""
-    parts = data.split(b"\n")                            # the last part has no LF behind it
+    """Line by line: stages up to 3 stand once and in turn, stage 4 at most once, the later ones as
+    often as one likes.
+    """
+    parts = data.split(b"\n")  # the last part has no LF behind it
     if parts[0] not in firsts and data:
         raise Unreadable(where, 1, "Version", "the first line isn't that of such a file")
     found, stage = Certificate(), start
@@ -168,7 +189,8 @@ def _read(data: bytes, where: str, firsts: Dict[bytes, Grammar], start: int) -> 
             raise Unreadable(where, number, *bad.args)
     if parts[-1] or stage < 9:
         kind = "Shape" if parts[-1] else "NoEnd"
-        words = "the line has no LF, or stands behind the end" if parts[-1] else "the file ends before its line `end`"
+        words = "the line has no LF, or stands behind the end" if parts[
+            -1] else "the file ends before its line `end`"
         raise Unreadable(where, len(parts), kind, words)
     return found
 
@@ -177,7 +199,10 @@ def read_certificate(data: bytes) -> Certificate:
     """The certificate of which these bytes are a text, of either version."""
     first: Grammar = {b"world": (8, lambda t, c: _world(t, c, 1)), **ORDER}
     second: Grammar = {b"world": (8, lambda t, c: _world(t, c, 2)), **ORDER}
-    return _read(data, "certificate", {b"argus certificate 1": first, b"argus certificate 2": second}, 0)
+    return _read(data, "certificate", {
+        b"argus certificate 1": first,
+        b"argus certificate 2": second
+    }, 0)
 
 
 def read_extra(data: bytes) -> Certificate:

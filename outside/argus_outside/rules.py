@@ -1,12 +1,13 @@
-"""Which cells are sensitive and how far they must stay open; what the office knows beforehand (manual: Rules and
-costs; A priori files). The rules and levels are those of the handbook on statistical disclosure control."""
+"""Which cells are sensitive and how far they must stay open; what the office knows beforehand
+(manual: Rules and costs; A priori files). The rules and levels are those of the handbook on
+statistical disclosure control."""
 from typing import Dict, List, Optional, Tuple
 
-from cells import Book, Cell
-from job import Job, Prior
-from texts import BLANKS, Unreadable, lines, read_file, units, whole_in
+from argus_outside.cells import Book, Cell
+from argus_outside.job import Job, Prior
+from argus_outside.texts import BLANKS, Unreadable, lines, read_file, units, whole_in
 
-MOST = 10 ** 29                # levels and bounds, in units
+MOST = 10**29  # levels and bounds, in units
 PRICE = 1 << 40
 
 
@@ -21,12 +22,14 @@ def keep(job: Job) -> int:
 
 
 def level(job: Job, cell: Cell, scale: int) -> Optional[int]:
-    """The greatest upper level, in units and at least 1, of the rules that name the cell; None where none does."""
+    """The greatest upper level, in units and at least 1, of the rules that name the cell; None
+    where none does.
+    """
     if cell.count == 0:
         return None
     found, truth = [], cell.truth
     first = cell.top(1, scale)
-    rest = truth - cell.top(2, scale)                    # X - x1 - x2
+    rest = truth - cell.top(2, scale)  # X - x1 - x2
     for word, numbers in job.rules:
         if word == "FREQ" and cell.count < numbers[0]:
             found.append(up(numbers[1] * truth, 100))
@@ -44,8 +47,9 @@ def level(job: Job, cell: Cell, scale: int) -> Optional[int]:
 
 
 class Statements:
-    """What a priori lines say of cells: numbers by (cell, keyword), and the place of each cell's first `p` line."""
-
+    """What a priori lines say of cells: numbers by (cell, keyword), and the place of each cell's
+    first `p` line.
+    """
     def __init__(self) -> None:
         self.said: Dict[Tuple[int, bytes], Tuple[int, ...]] = {}
         self.shown: Dict[int, Tuple[int, int]] = {}
@@ -55,12 +59,15 @@ FIELDS = {b"u": 0, b"s": 0, b"p": 0, b"c": 1, b"pl": 2, b"b": 2}
 
 
 def _numbers(keyword: bytes, fields: List[bytes], decimals: int) -> Optional[Tuple[int, ...]]:
-    """A statement's numbers, levels and bounds in units; None where one is no number or out of range."""
+    """A statement's numbers, levels and bounds in units; None where one is no number or out of
+    range.
+    """
     if keyword == b"c":
         price = whole_in(fields[0], 1, PRICE)
-        return None if price is None else (price,)
-    numbers = [units(field, decimals) for field in fields]
-    if any(number is None or number > MOST for number in numbers) or keyword == b"pl" and numbers[1] < 1:
+        return None if price is None else (price, )
+    said = [units(field, decimals) for field in fields]
+    numbers = [number for number in said if number is not None and number <= MOST]
+    if len(numbers) != len(said) or keyword == b"pl" and numbers[1] < 1:
         return None
     return tuple(numbers)
 
@@ -75,20 +82,24 @@ def read_prior(book: Book, prior: Prior, statements: Statements) -> None:
         fields = [field.strip(BLANKS) for field in line.split(prior.separator)]
         keyword = fields[len(spans)].lower() if len(fields) > len(spans) else b""
         if keyword not in FIELDS or len(fields) != len(spans) + 1 + FIELDS[keyword]:
-            raise Unreadable(where, number, "BadShape", "the line has another number of fields, or no such keyword")
+            raise Unreadable(where, number, "BadShape",
+                             "the line has another number of fields, or no such keyword")
         name = [0] * len(book.trees)
         for variable, cut, code in zip(spans, book.cuts[prior.table - 1], fields):
             place = cut.tree.places.get(code)
             if place is None or not cut.has(place):
-                raise Unreadable(where, number, "UnknownCode", "the table has no such code of the variable")
+                raise Unreadable(where, number, "UnknownCode",
+                                 "the table has no such code of the variable")
             name[variable] = place
         numbers = _numbers(keyword, fields[len(spans) + 1:], book.bound.decimals)
         if numbers is None:
-            raise Unreadable(where, number, "BadNumber", "a number isn't one, has too many decimals, or is out of range")
+            raise Unreadable(where, number, "BadNumber",
+                             "a number isn't one, has too many decimals, or is out of range")
         _state(book, book.numbers[tuple(name)], keyword, numbers, (prior.table, number), statements)
 
 
-def _state(book: Book, cell: int, keyword: bytes, numbers: Tuple[int, ...], place: Tuple[int, int], all_: Statements) -> None:
+def _state(book: Book, cell: int, keyword: bytes, numbers: Tuple[int, ...], place: Tuple[int, int],
+           all_: Statements) -> None:
     """One statement on one cell, or its fault; an exact repetition is none."""
     where, line = "apriori table %d" % place[0], place[1]
     if keyword == b"u" and book.cells[cell].count == 0:
@@ -104,10 +115,15 @@ def _state(book: Book, cell: int, keyword: bytes, numbers: Tuple[int, ...], plac
 
 
 def settle(book: Book, job: Job, statements: Statements) -> None:
-    """Gives every cell its kind, levels, bounds and price, or the first `p` line of a sensitive cell as a fault."""
-    scale = 10 ** book.bound.weight.decimals if book.bound.weight else 1
+    """Gives every cell its kind, levels, bounds and price, or the first `p` line of a sensitive
+    cell as a fault.
+    """
+    scale = 10**book.bound.weight.decimals if book.bound.weight else 1
     for number, cell in enumerate(book.cells):
-        said = {keyword: statements.said[number, keyword] for keyword in FIELDS if (number, keyword) in statements.said}
+        said = {
+            keyword: statements.said[number, keyword]
+            for keyword in FIELDS if (number, keyword) in statements.said
+        }
         rule = level(job, cell, scale)
         if b"u" in said or rule is not None and b"s" not in said:
             manual = max(1, up(job.manual * cell.truth, 100)) if b"u" in said else 1
@@ -119,9 +135,14 @@ def settle(book: Book, job: Job, statements: Statements) -> None:
             cell.kind = "Fixed"
         if b"b" in said:
             cell.low, cell.high = said[b"b"]
-        cost = {b"VALUE": 1 + min(cell.truth, PRICE - 1), b"FREQ": 1 + cell.count, b"UNIT": 1}[job.cost]
+        cost = {
+            b"VALUE": 1 + min(cell.truth, PRICE - 1),
+            b"FREQ": 1 + cell.count,
+            b"UNIT": 1
+        }[job.cost]
         cell.price = said[b"c"][0] if b"c" in said else cost
     bad = [place for cell, place in statements.shown.items() if book.cells[cell].kind == "Primary"]
     if bad:
         table, line = min(bad)
-        raise Unreadable("apriori table %d" % table, line, "ProtectedPrimary", "a sensitive cell is to be shown")
+        raise Unreadable("apriori table %d" % table, line, "ProtectedPrimary",
+                         "a sensitive cell is to be shown")
