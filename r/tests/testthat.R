@@ -1,0 +1,4 @@
+library(testthat)
+library(argus)
+
+test_check("argus")
