@@ -20,9 +20,9 @@ build_both() {
     how='as the gate or a launcher left them in crates/'
     is_left argus && is_left cells && return 0
     how='built by proving'
-    for program in argus cells; do
-        ARGUS_BUILD=1 "$top/$program" </dev/null >/dev/null
-        [ $? -ne 125 ] || { why="the launcher $program says why" && return 1; }
+    for word in '' cells; do
+        ARGUS_BUILD=1 "$top/argus" ${word:+"$word"} </dev/null >/dev/null
+        [ $? -ne 125 ] || { why="the launcher says why" && return 1; }
     done
     built_argus=$top/out/argus
     built_cells=$top/out/cells

@@ -5,7 +5,7 @@ names each clause of a public function (`clauses.py` lists which row does), that
 the contracts come to each definition (`uncited.py` lists those to which none does), that MODEL names every module of
 definitions and has the promise and its counts as their scripts print them, that the manual's quick reference is whole and
 has below the right heading the word by which a statistician looks for the answer to each question of `questions.txt`, and
-the number of words of README. Blocks that call a companion (`start`, `page`, `seal`, ..) or several jobs at a time are run
+the number of words of README. Blocks that call a companion (`argus start`, ..) or several jobs at a time are run
 in a copy of their example, where the built programs are at hand as out/argus and out/cells; else a line says how many were
 left out. Prints what it finds, a line for each fault, and at last `pages: N faults`."""
 
@@ -90,7 +90,7 @@ def words_of_tree():
     words = set()
     for name in FILES:
         words.update(re.findall(r"\w+", name))
-        if re.search(r"\.(rt|antt|edit|py|sh|txt|job|rda|hst|hrc|cdl|asc|csv|cert|expected)$", name) or name in ("argus", "examples/try", "bench/limits/run"):
+        if re.search(r"\.(rt|antt|edit|py|sh|R|txt|job|rda|hst|hrc|cdl|asc|csv|cert|expected)$", name) or name in ("argus", "examples/try", "bench/limits/run"):
             try:
                 words.update(re.findall(r"\w+", read(name)))
             except UnicodeDecodeError:
@@ -186,7 +186,7 @@ def outputs_of(command):
         return grep(words[1:])
     if words[:1] == ["awk"]:
         return awk(command)
-    if words[:1] == ["../../cells"]:
+    if words[:2] == ["../../argus", "cells"]:
         return listing(command)
     return None
 
@@ -196,7 +196,7 @@ def listing(command):
     asked, _, further = command.partition(" | ")
     words = asked.split()
     option = next((it[2:] for it in ("--intervals", "--released", "--relations") if it in words), "cells")
-    name = words[1].replace(".job", "." + option)
+    name = words[2].replace(".job", "." + option)
     if further:
         return awk(f"cat {name} | {further}")
     return [""] if ">" in asked else bytes_of(name)
@@ -246,10 +246,10 @@ def check_commands(page, answers):
 # ---- blocks that call a companion, or several jobs at a time
 
 PROGRAMS = ["argus", "cells"]
-COMPANIONS = ["start", "explain", "page", "seal", "carry", "outside/check"]
+COMPANIONS = ["argus start", "argus explain", "argus page", "argus seal", "argus carry", "outside/check"]
 COMPANION = re.compile(r"(\.\./\.\./(?:" + "|".join(COMPANIONS) + r")|make|xargs|parallel) ")
-# What a block of README or the manual may leave out of what it prints: a comparison of its own is in bench/start.
-QUIET = ("../../start ",)
+# What a block of README or the manual may leave out of what it prints: a comparison of its own is in companions/tests.
+QUIET = ("../../argus start ",)
 
 
 def are_built():
@@ -301,7 +301,7 @@ def lay_out(top, folder):
     place = os.path.join(top, "out", "tried")
     os.makedirs(place)
     os.makedirs(os.path.join(top, "outside"))
-    for name in PROGRAMS + COMPANIONS:
+    for name in ("argus", "outside/check"):
         with open(os.path.join(top, name), "w", encoding="utf-8") as file:
             file.write(f'#!/bin/sh\nexec "{TOP}/{name}" "$@"\n')
         os.chmod(os.path.join(top, name), 0o755)
@@ -317,7 +317,7 @@ def lay_out(top, folder):
 def check_command(page, command, said, answers):
     if command in UNTRIED or command == "rt ci" or command.startswith(("mkdir", "cd ")):
         return
-    asked = re.fullmatch(r"(?:\.\./\.\./)?argus (.*)", command)
+    asked = re.fullmatch(r"(?:\.\./\.\./)?argus (?!cells )(.*)", command)
     if asked and (page, command) in CHANGED_BY_THE_READER:
         return
     if asked:

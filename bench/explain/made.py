@@ -17,7 +17,7 @@ import sys
 import tempfile
 
 HERE = os.path.dirname(os.path.abspath(__file__))
-EXPLAIN = os.path.join(HERE, "..", "..", "explain")
+EXPLAIN = (os.path.join(HERE, "..", "..", "argus"), "explain")
 RULES = ("FREQ(3,30)|P(20)", "FREQ(3,50)", "NK(1,60)|FREQ(2,30)", "P(50)", "FREQ(4,40)|NK(2,80)")
 SHOWN = ("Total,Total", "North,Total", "Total,1", "c,Total", "Total,11", "a,Total")
 
@@ -81,7 +81,7 @@ def try_job(program, draw):
             return "released after %d" % turn if checked == "accepted\n" else "not accepted"
         if done.returncode != 3:
             return done.stdout.split(":")[0]
-        said = subprocess.run([EXPLAIN, "run", "m.job"], input=done.stdout, stdout=subprocess.PIPE, text=True, check=False).stdout
+        said = subprocess.run([*EXPLAIN, "run", "m.job"], input=done.stdout, stdout=subprocess.PIPE, text=True, check=False).stdout
         if not take(said, priors):
             return "no lines, against a firm" if " from row " in done.stdout else "no lines, against readers"
     return "not released"

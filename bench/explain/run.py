@@ -28,14 +28,14 @@ import time
 HERE = os.path.dirname(os.path.abspath(__file__))
 TOP = os.path.dirname(os.path.dirname(HERE))
 sys.dont_write_bytecode = True
-sys.path[:0] = [TOP, HERE]
+sys.path[:0] = [os.path.join(TOP, "companions"), HERE]
 
-from explaining import answers  # noqa: E402
-from explaining.cells import Book, digits  # noqa: E402
-from explaining.jobs import Job  # noqa: E402
+from argus_office.explaining import answers  # noqa: E402
+from argus_office.explaining.cells import Book, digits  # noqa: E402
+from argus_office.explaining.jobs import Job  # noqa: E402
 import mistakes  # noqa: E402
 
-EXPLAIN = os.path.join(TOP, "explain")
+EXPLAIN = (os.path.join(TOP, "argus"), "explain")
 JOBS = os.path.join(HERE, "jobs")
 # What is done to each job that can't be protected where no lines are printed to be saved: these lines of its a priori file go.
 DELETED = {"01": [2], "02": [1, 2], "03": [2], "04": [1], "05": [2], "06": [1]}
@@ -477,13 +477,13 @@ def command(tally):
     with Room(JOBS):
         wanted = content("07.explained").encode()
         for words, given in ((["run", "07.job"], answer), (["07.job", head, multipliers], ""), (["07.job", head], multipliers), (["07.job"], answer), (["07.job", answer], "")):
-            done = subprocess.run([EXPLAIN, *words], input=given.encode(), stdout=subprocess.PIPE, stderr=subprocess.PIPE, check=False)
+            done = subprocess.run([*EXPLAIN, *words], input=given.encode(), stdout=subprocess.PIPE, stderr=subprocess.PIPE, check=False)
             tally.wants(done.stdout == wanted and not done.stderr and not done.returncode, "explain %s: %s %s" % (words, done.stdout, done.stderr))
-        rows = subprocess.run([EXPLAIN, "--lines", "run", "07.job"], input=answer.encode(), stdout=subprocess.PIPE, check=False).stdout
+        rows = subprocess.run([*EXPLAIN, "--lines", "run", "07.job"], input=answer.encode(), stdout=subprocess.PIPE, check=False).stdout
         tally.wants(rows == b"".join(it + b"\n" for it in wanted.split(b"\n") if b",pl," in it), "explain --lines: %s" % rows)
         for words, status in (([], 1), (["07.job", "what?"], 2), (["--help"], 0), (["nothing.job", "refused: record 1: Short"], 0), (["07.job", "cannot protect cell 99 above"], 0),
                               (["07.job", "cannot protect cell 1 below from row 99", "multipliers 1 7:1"], 0), (["07.asc", "refused: record 1: Short"], 0), ([".", "refused: job line 1: BadLine"], 0)):
-            done = subprocess.run([EXPLAIN, *words], stdin=subprocess.DEVNULL, stdout=subprocess.PIPE, stderr=subprocess.PIPE, check=False)
+            done = subprocess.run([*EXPLAIN, *words], stdin=subprocess.DEVNULL, stdout=subprocess.PIPE, stderr=subprocess.PIPE, check=False)
             tally.wants(done.returncode == status and not done.stderr and b"explain couldn't" not in done.stdout, "explain %s: %d %s" % (words, done.returncode, done.stdout + done.stderr))
 
 

@@ -1,0 +1,174 @@
+"""Reads the files back that start wrote, as argus would, and compares every record with the CSV.
+
+The metadata are read from their file, the fields cut by their positions, and numbers compared
+exactly; nothing of what was worked out while writing is used but the separator and the marks of
+numbers.
+"""
+
+import os
+import re
+from fractions import Fraction
+from itertools import zip_longest
+from typing import Dict, Iterator, List, NamedTuple, Sequence, Set, Tuple, Union
+
+from argus_office.starting.amounts import Marks
+from argus_office.starting.csv_file import BLANKS, Source
+from argus_office.starting.refusals import Difference, shown
+from argus_office.starting.tree_files import read_tree
+
+
+class Place(NamedTuple):
+    """A variable as the metadata have it."""
+
+    name: str
+    first: int
+    width: int
+    missing: Sequence[str]
+    keywords: Dict[str, Sequence[str]]
+
+    def slice(self) -> slice:
+        """Where the field is in a record."""
+        return slice(self.first - 1, self.first - 1 + self.width)
+
+    def decimals(self) -> int:
+        """The digits behind the point, by `<DECIMALS>`."""
+        return int((self.keywords.get("<DECIMALS>") or ["0"])[0])
+
+
+def places_of(path: str) -> List[Place]:
+    """The variables of the metadata, in order."""
+    found: List[Place] = []
+    with open(path, encoding="latin-1", newline="") as file:
+        for line in file.read().split("\n"):
+            words = [quoted or bare for quoted, bare in re.findall(r'"([^"]*)"|([^ \t"]+)', line)]
+            if line.startswith("<"):
+                found[-1].keywords[words[0]] = words[1:]
+            elif words:
+                found.append(Place(words[0], int(words[1]), int(words[2]), words[3:], {}))
+    return found
+
+
+class Wanted(NamedTuple):
+    """Which column of the CSV a variable is, and of a tree by groups the columns of its groups."""
+
+    column: int
+    groups: Sequence[int]
+
+
+class Comparison:
+    """The files in a folder against the CSV."""
+
+    def __init__(
+        self, source: Source, folder: str, stem: str, wanted: Sequence[Wanted], missing: Set[str],
+        marks: Marks
+    ) -> None:
+        self.source, self.folder, self.stem = source, folder, stem
+        self.missing, self.marks = missing, marks
+        self.places = places_of(os.path.join(folder, stem + ".rda"))
+        self.wanted = wanted
+        self.trees = [self.tree(place, it) for place, it in zip(self.places, wanted)]
+
+    def differs(self, line: int, place: Place, there: str, here: str) -> Difference:
+        """The fault that a record isn't that of the CSV."""
+        return Difference(
+            "%s, line %d, %s: the CSV has %s, and %s.asc has %s" %
+            (self.source.name, line, place.name, shown(there), self.stem, shown(here))
+        )
+
+    def tree(self, place: Place, wanted: Wanted) -> Dict[str, str]:
+        """The parent of each code, where the tree was written from columns."""
+        if not wanted.groups:
+            return {}
+        with open(
+            os.path.join(self.folder, place.keywords["<HIERCODELIST>"][0]),
+            encoding="latin-1",
+            newline=""
+        ) as file:
+            return read_tree(
+                file.read(), (place.keywords.get("<HIERLEADSTRING>") or ["@"])[0], "", self.stem
+            )
+
+    def records(self) -> Iterator[str]:
+        """The records of the microdata."""
+        with open(
+            os.path.join(self.folder, self.stem + ".asc"), encoding="latin-1", newline="\n"
+        ) as file:
+            for record in file:
+                yield record[:-1]
+
+    def rows(self) -> Iterator[Tuple[int, List[str]]]:
+        """The records of the CSV, read anew, without empty lines."""
+        for line, row in self.source.rows():
+            if any(it.strip(BLANKS) for it in row):
+                yield line, row
+
+    def run(self) -> int:
+        """How many records were compared; the first that differs is a fault."""
+        if len(self.places) != len(self.wanted):
+            raise Difference(
+                "%s.rda has %d variables, not %d" % (self.stem, len(self.places), len(self.wanted))
+            )
+        both = list(zip(self.places, self.wanted))
+        codes = [(place.slice(), it.column, place)
+                 for place, it in both
+                 if "<NUMERIC>" not in place.keywords]
+        numbers = [(place, it.column, place.decimals())
+                   for place, it in both
+                   if "<NUMERIC>" in place.keywords]
+        with_groups = any(self.trees)
+        count = 0
+        for pair, record in zip_longest(self.rows(), self.records()):
+            if pair is None or record is None:
+                raise Difference(
+                    "%s.asc has %s records than %s" %
+                    (self.stem, "fewer" if record is None else "more", self.source.name)
+                )
+            line, row = pair
+            for where, column, place in codes:
+                if record[where].strip(BLANKS) != row[column].strip(BLANKS):
+                    raise self.differs(line, place, row[column], record[where])
+            for place, column, decimals in numbers:
+                here = record[place.slice()].strip(BLANKS)
+                if self.mine(here, place,
+                             decimals) != self.theirs(row[column].strip(BLANKS), decimals):
+                    raise self.differs(line, place, row[column], here)
+            if with_groups:
+                self.check_groups(line, row, numbers[-1][1])
+            count += 1
+        return count
+
+    def check_groups(self, line: int, row: Sequence[str], value: int) -> None:
+        """Each record that counts has its code below the groups that the CSV says, up to the total.
+        """
+        for place, wanted, tree in zip(self.places, self.wanted, self.trees):
+            code = row[wanted.column].strip(BLANKS)
+            if tree and code not in self.missing and row[value].strip(BLANKS) not in self.missing:
+                chain = [row[it].strip(BLANKS) for it in wanted.groups]
+                if [tree.get(it) for it in (code, *chain)] != [*chain, ""]:
+                    raise self.differs(line, place, " in ".join([code, *chain]), "another tree")
+
+    def mine(self, text: str, place: Place, decimals: int) -> Union[int, Fraction, None]:
+        """The number of a field, in units; none where there is no answer."""
+        if text == "" or text in place.missing:
+            return None
+        whole, _, rest = text.partition(".")
+        if len(rest) != decimals:
+            return Fraction(text) * power(decimals)
+        return int(whole + rest)
+
+    def theirs(self, text: str, decimals: int) -> Union[int, Fraction, None]:
+        """The number of a field of the CSV, in units; none where there is no answer."""
+        if text in self.missing:
+            return None
+        marks = self.marks
+        if marks.thousands:
+            text = self.source.decoded(text, 0, "").replace(marks.thousands, "")
+        whole, _, rest = text.partition(marks.decimal)
+        if whole.isdigit() and (rest.isdigit() or not rest) and len(rest) <= decimals:
+            return int(whole + rest.ljust(decimals, "0"))
+        return Fraction(text.replace(marks.decimal, ".").rstrip(".")) * power(decimals)
+
+
+def power(decimals: int) -> int:
+    """How many units a whole has, with so many decimals."""
+    return int(10**decimals)

@@ -1,0 +1,69 @@
+"""What start says when the files are in their places: what it read, and what comes next."""
+
+from typing import List, Sequence
+
+from argus_office.starting.amounts import written
+from argus_office.starting.depths import depth_line
+from argus_office.starting.making import Making
+from argus_office.starting.refusals import counted
+from argus_office.starting.summary import (
+    blanks_dropped, code_line, how_written, left_out, next_commands, number_line, renamed
+)
+
+
+def lines_of(making: Making, files: Sequence[str]) -> List[str]:
+    """What start says of the files that it has written, a line each."""
+    lines = [*columns_of(making), *left_of(making)]
+    own = making.own_files()
+    order = ", ".join([*own, *(it for it in files if it not in own)])
+    lines.append("Written: %s. Every record was read back and compared with the CSV." % order)
+    if "rule" not in making.words.one:
+        lines.append("The rules %s are examples. Which ones an office needs is for the office to "
+                     "decide:" % making.rules)
+        lines.append("give them by --rule, or edit <SAFETYRULE> in %s.job." % making.stem)
+    kept = sum(making.kept)
+    counts = count_of(kept, "record"), len(making.kept) - kept, count_of(making.cells, "cell")
+    lines.append("Compare codes and total with what the office knows. argus should find %s, "
+                 "%d skipped, %s. Next:" % counts)
+    return lines + next_commands(making.out, making.stem + ".job")
+
+
+def columns_of(making: Making) -> List[str]:
+    """How the CSV was read, and what its columns have."""
+    made, source = making.made, making.source
+    read = counted(len(making.kept), "record"), how_written(source, making.marks)
+    lines = ["%s: %s; %s" % (source.name, *read)]
+    for variable, tree in zip(making.variables, making.trees):
+        lines.append("  %s: %s" % (made[variable.column], code_line(variable, tree)))
+    for number, it in making.cut():
+        tree = making.trees[making.spanning.index(it.column)]
+        lines.append(depth_line(number, made[it.column], it, tree))
+    if making.weight is not None:
+        weights = number_line(making.weights, making.weight_decimals)
+        lines.append("  %s: %s" % (made[making.weight], weights))
+    values = number_line(making.units, making.decimals) + weighted(making)
+    return [*lines, "  %s: %s" % (made[making.value], values)]
+
+
+def left_of(making: Making) -> List[str]:
+    """What isn't in the files as the CSV has it."""
+    source, used = making.source, making.used
+    skipped = len(making.kept) - sum(making.kept)
+    lines = left_out(source, making.records, skipped, source.names[making.value], used)
+    lines += renamed(source, making.made, used)
+    return lines + blanks_dropped(source, making.records, sorted(used))
+
+
+def weighted(making: Making) -> str:
+    """The total as the tables have it, where there is a weight."""
+    if making.weight is None:
+        return ""
+    both = zip(making.units, making.weights)
+    total = sum(unit * (weight or 0) for unit, weight in both if unit is not None)
+    decimals = making.decimals + making.weight_decimals
+    return "; with weights the total is %s" % written(total, decimals)
+
+
+def count_of(count: int, noun: str) -> str:
+    """As argus says it: without marks between thousands, and with `s` in every case."""
+    return "%d %ss" % (count, noun)
