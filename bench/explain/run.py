@@ -31,8 +31,8 @@ sys.dont_write_bytecode = True
 sys.path[:0] = [os.path.join(TOP, "companions"), HERE]
 
 from argus_office.explaining import answers  # noqa: E402
-from argus_office.explaining.cells import Book, digits  # noqa: E402
-from argus_office.explaining.jobs import Job  # noqa: E402
+from argus_office.reading.book import Book, digits  # noqa: E402
+from argus_office.reading.job import Job  # noqa: E402
 import mistakes  # noqa: E402
 
 EXPLAIN = (os.path.join(TOP, "argus"), "explain")

@@ -5,9 +5,10 @@ import re
 from typing import List, NamedTuple, Optional, Tuple
 
 from argus_office.explaining import contributors, doubts, jobs, metadata, priors, protection, records, releases, trees, undecided
-from argus_office.explaining.cells import Book
-from argus_office.explaining.jobs import Job
-from argus_office.explaining.texts import Unread, absent, shown_name
+from argus_office.explaining.texts import absent
+from argus_office.reading.book import Book
+from argus_office.reading.files import Unread, shown_name
+from argus_office.reading.job import Job
 
 MOST = 6
 WORDS = {"run": 2, "check": 2, "intervals": 3, "audit": 3, "migrate": 3, "demo": 3}

@@ -5,7 +5,7 @@ import select
 import sys
 
 from argus_office.explaining import answers, contributors
-from argus_office.explaining.texts import shown
+from argus_office.reading.files import shown
 
 USAGE = (
     "usage: argus explain JOB 'ANSWER' ['FURTHER LINE' ..] | argus explain run JOB <ANSWER | "

@@ -7,10 +7,10 @@ only what the others add can be open. The office then states that rest as the lo
 from fractions import Fraction
 from typing import Dict, List, NamedTuple, Set, Tuple
 
-from argus_office.explaining.cells import Book
 from argus_office.explaining.protection import Question, Sum, by_lines, holders, level_of, levels_text, reach_text, remedy, row_line
 from argus_office.explaining.rooms import Rooms, knowers
-from argus_office.explaining.texts import bytes_range, grouped, listed, shown, shown_name
+from argus_office.reading.book import Book
+from argus_office.reading.files import bytes_range, grouped, listed, shown, shown_name
 
 # So many lines of an a priori file are printed beside the explanation; --lines prints them all.
 MOST_LINES = 20

@@ -7,12 +7,13 @@ import re
 from collections import Counter
 from typing import Dict, List, Optional, Tuple
 
-from argus_office.explaining.jobs import Job
-from argus_office.explaining.metadata import Variable
 from argus_office.explaining.overlaps import overlaps
-from argus_office.explaining.records import Microdata, Record, is_skipped, units_of
-from argus_office.explaining.texts import BLANKS, MARK, Unread, bytes_range, content, foreign, grouped, lines_of, shown, shown_name
-from argus_office.explaining.trees import code_list, kind_of
+from argus_office.explaining.texts import foreign
+from argus_office.reading.files import BLANKS, MARK, Unread, bytes_range, content, grouped, lines_of, shown, shown_name
+from argus_office.reading.job import Job
+from argus_office.reading.metadata import Variable
+from argus_office.reading.records import Microdata, Record, is_skipped, units_of
+from argus_office.reading.trees import code_list, kind_of
 
 # A value so many times the next largest is doubted.
 FAR = 1000

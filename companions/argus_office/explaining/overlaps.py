@@ -7,11 +7,11 @@ takes down to its own level says these sums: so each doubt has the DEPTH lines f
 import itertools
 from typing import Dict, List, NamedTuple, Optional, Set, Tuple
 
-from argus_office.explaining.arguments import MOST_LEVEL
-from argus_office.explaining.metadata import Variable
-from argus_office.explaining.records import Microdata
-from argus_office.explaining.texts import BLANKS, Unread, bytes_range, listed, shown, shown_name
-from argus_office.explaining.trees import Tree, tree_of
+from argus_office.reading.arguments import MOST_LEVEL
+from argus_office.reading.files import BLANKS, Unread, bytes_range, listed, shown, shown_name
+from argus_office.reading.metadata import Variable
+from argus_office.reading.records import Microdata
+from argus_office.reading.trees import Tree, tree_of
 
 # For each code of a variable the only code of another one with which it occurs.
 Partners = Dict[bytes, bytes]

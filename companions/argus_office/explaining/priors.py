@@ -3,11 +3,13 @@
 from fractions import Fraction
 from typing import List, NamedTuple, Optional, Tuple
 
-from argus_office.explaining.arguments import Prior
-from argus_office.explaining.cells import Book, Statement
-from argus_office.explaining.jobs import Job, Line
-from argus_office.explaining.records import like_code, units_of
-from argus_office.explaining.texts import BLANKS, MARK, absent, bare, bytes_range, content, foreign, is_number, lines_of, listed, shown, shown_name
+from argus_office.explaining.records import like_code
+from argus_office.explaining.texts import absent, foreign
+from argus_office.reading.arguments import Prior
+from argus_office.reading.book import Book, Statement
+from argus_office.reading.files import BLANKS, MARK, bare, bytes_range, content, is_number, lines_of, listed, shown, shown_name
+from argus_office.reading.job import Job, Line
+from argus_office.reading.records import units_of
 
 # For each keyword how many fields follow it, and what they are.
 KEYWORDS = {"u": (0, "unsafe"), "s": (0, "safe"), "p": (0, "always shown"), "c": (1, "the price, a whole number from 1 to 2^40"),

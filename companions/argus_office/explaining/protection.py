@@ -8,9 +8,9 @@ import re
 from fractions import Fraction
 from typing import Dict, List, NamedTuple, Optional, Set, Tuple
 
-from argus_office.explaining.cells import Book, Relation, digits
 from argus_office.explaining.rooms import Rooms
-from argus_office.explaining.texts import listed, shown, shown_name
+from argus_office.reading.book import Book, Relation, digits
+from argus_office.reading.files import listed, shown, shown_name
 
 
 class Question(NamedTuple):

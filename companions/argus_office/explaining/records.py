@@ -1,72 +1,21 @@
-"""Microdata: records and their fields, and what is wrong with a record that argus refused (docs/MANUAL.md, What is refused in microdata).
+"""What is wrong with a record that argus refused (docs/MANUAL.md, What is refused in microdata).
 
 A line with at least one byte is a record, numbered from 1. Rows, as `from row R` names them, are the records that weren't skipped.
 """
 
 import re
-from typing import Iterator, List, NamedTuple, Optional
+from typing import List, Optional
 
-from argus_office.explaining.jobs import Job, Names, names_of
-from argus_office.explaining.metadata import Metadata, Variable
-from argus_office.explaining.texts import BLANKS, MARK, Unread, bytes_range, content, foreign, grouped, lines_of, listed, same_but_case, shown, shown_name
-from argus_office.explaining.trees import Tree, code_list, from_file, kind_of, prefixes
+from argus_office.explaining.texts import foreign
+from argus_office.reading.files import BLANKS, MARK, Unread, bytes_range, grouped, listed, shown, shown_name
+from argus_office.reading.job import Job
+from argus_office.reading.metadata import Variable
+from argus_office.reading.records import Microdata, Record, is_skipped, units_of
+from argus_office.reading.trees import Tree, code_list, from_file, kind_of, prefixes
+from argus_office.reading.words import same_but_case
 
 MOST_BYTES, MOST_RECORDS, MOST_CODES = 1000, 1000000, 5000
 NO_ANSWER = (b"NA", b"N/A", b"NAN", b"NULL", b"NONE", b".", b"-", b"--", b"*", b"?", b"X", b"#N/A", b"<NA>", b"NIL", b"INF")
-
-
-class Record(NamedTuple):
-    """A record: its line in the file and its number, both from 1, and its bytes."""
-
-    line: int
-    number: int
-    raw: bytes
-
-
-def records_of(data: bytes) -> Iterator[Record]:
-    number = 0
-    for k, raw in enumerate(lines_of(data)):
-        if raw:
-            number += 1
-            yield Record(k + 1, number, raw)
-
-
-def units_of(text: bytes, decimals: int) -> Optional[int]:
-    """The number of units of a value, or nothing where it is none."""
-    whole, point, part = text.partition(b".")
-    if len(part) > decimals or not (whole or part) or not all(48 <= it <= 57 for it in whole + part):
-        return None
-    return int(whole + part.ljust(decimals, b"0"))
-
-
-def is_skipped(raw: bytes, response: Variable) -> bool:
-    text = response.field(raw).strip(BLANKS)
-    return not text or text in response.missing
-
-
-class Microdata:
-    """The microdata of a job with what is needed to read a record."""
-
-    def __init__(self, job: Job):
-        name = job.file("OPENMICRODATA")
-        if name is None:
-            raise Unread(job.name, "it has no line <OPENMICRODATA> with the name of the microdata")
-        self.job, self.name, self.metadata = job, name, job.metadata()
-        self.names: Names = names_of(job, self.metadata)
-        self.data = content(name)
-        self.records = list(records_of(self.data))
-
-    def of_number(self, number: int) -> Optional[Record]:
-        return self.records[number - 1] if 0 < number <= len(self.records) else None
-
-    def rows(self) -> Iterator[Record]:
-        """The records that aren't skipped."""
-        response = self.names.response
-        return (it for it in self.records if response is not None and not is_skipped(it.raw, response))
-
-    def place(self, record: Record) -> str:
-        also = "" if record.line == record.number else " (record %s: lines without a byte don't count)" % grouped(record.number)
-        return "%s, line %d%s" % (shown_name(self.name), record.line, also)
 
 
 class Look:
@@ -104,9 +53,6 @@ def explain(job: Job, number: int, kind: str) -> List[str]:
         lines = ["%s: %s" % (data.place(record), shown(record.raw, 80)), "Nothing is wrong with it as it stands now; has the file or the metadata changed since argus read it?"]
     whole_file = foreign(data.data)
     return lines + [whole_file] if whole_file and not any("byte-order mark" in it for it in lines) else lines
-
-
-# ------------------------------------------------------------------------------------------------------------- lengths of records
 
 
 def too_long(look: Look, kind: str) -> List[str]:
@@ -158,9 +104,6 @@ def is_heading(look: Look) -> bool:
     """Whether a first record holds names of variables in place of values."""
     text = look.record.raw.lower()
     return sum(1 for it in look.data.names.used() if it.name.lower() in text) >= 2 or not any(48 <= it <= 57 for it in text)
-
-
-# ------------------------------------------------------------------------------------------------------------------------ numbers
 
 
 def fault_of_number(variable: Variable, text: bytes, most: int) -> Optional[str]:
@@ -301,9 +244,6 @@ def light_weight(look: Look, kind: str) -> List[str]:
         return []
     lines = [look.head(variable), "A weight is at least 1: a record stands for itself at least."]
     return lines + shifted(look, variable)
-
-
-# -------------------------------------------------------------------------------------------------------------------------- codes
 
 
 def bad_code(look: Look, kind: str) -> List[str]:

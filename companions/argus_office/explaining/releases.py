@@ -6,11 +6,12 @@ import re
 from fractions import Fraction
 from typing import Dict, List, Optional, Tuple
 
-from argus_office.explaining.cells import Book, digits
-from argus_office.explaining.jobs import Job, written
-from argus_office.explaining.records import Microdata
-from argus_office.explaining.texts import BLANKS, Unread, absent, bare, content, grouped, lines_of, listed, others_named, shown, shown_name
-from argus_office.explaining.trees import Tree, tree_of
+from argus_office.explaining.texts import absent, others_named
+from argus_office.reading.book import Book, digits
+from argus_office.reading.files import BLANKS, Unread, bare, content, grouped, lines_of, listed, shown, shown_name
+from argus_office.reading.job import Job, written
+from argus_office.reading.records import Microdata
+from argus_office.reading.trees import Tree, tree_of
 
 READ = {
     "Version": "Its first line isn't `%s`, perhaps because an editor added a CR or a byte-order mark.",

@@ -6,7 +6,7 @@ the narrowest, but no complete table goes past them: a level beyond them can't b
 
 from typing import Dict, Iterable, List, NamedTuple, Optional, Set, Tuple
 
-from argus_office.explaining.cells import Book, Relation
+from argus_office.reading.book import Book, Relation
 
 # So many parts of relations are looked at in all, some seconds of work.
 MOST_WORK = 1500000

@@ -3,9 +3,9 @@
 import re
 from typing import List
 
-from argus_office.explaining.cells import Book
-from argus_office.explaining.jobs import Job
-from argus_office.explaining.texts import grouped, listed, shown_name
+from argus_office.reading.book import Book
+from argus_office.reading.files import grouped, listed, shown_name
+from argus_office.reading.job import Job
 
 TIMES = "Times (the manual, Sizes and times): two variables with levels, 2,397 hidden cells: 7 s; 6,837: 6 min; three variables, 152 hidden: 7 s."
 

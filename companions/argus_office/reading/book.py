@@ -9,10 +9,10 @@ import itertools
 from fractions import Fraction
 from typing import Dict, Iterator, List, NamedTuple, Optional, Sequence, Set, Tuple
 
-from argus_office.explaining.jobs import Job
-from argus_office.explaining.records import Microdata, Record, units_of
-from argus_office.explaining.texts import BLANKS, Unread, content, lines_of, listed, shown, shown_name
-from argus_office.explaining.trees import tree_of
+from argus_office.reading.files import BLANKS, Unread, content, lines_of, listed, shown, shown_name
+from argus_office.reading.job import Job
+from argus_office.reading.records import Microdata, Record, units_of
+from argus_office.reading.trees import tree_of
 
 Name = Tuple[int, ...]
 Relation = Tuple[int, List[int]]

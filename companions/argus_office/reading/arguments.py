@@ -6,7 +6,8 @@ stand there. Places are counted in the whole line, from 0.
 
 from typing import Callable, Dict, List, NamedTuple, Optional, Tuple
 
-from argus_office.explaining.texts import BLANKS, curled_in, grouped, is_number, nearest
+from argus_office.reading.files import BLANKS, grouped, is_number
+from argus_office.reading.words import curled_in, nearest
 
 MOST_NAME = 255
 RULES = ("FREQ", "NK", "P", "PQ", "ZERO", "MAN", "WGT")

@@ -1,0 +1,123 @@
+"""Files as bytes, their lines and words, and how bytes are shown to a person.
+
+argus reads bytes, so places count bytes from 1. A blank is a space or a tab; a line ends with LF or with CR and LF (docs/MANUAL.md, All
+text files).
+"""
+
+import os
+import stat
+from typing import Iterable, List, NamedTuple
+
+BLANKS = b" \t"
+MARK = b"\xef\xbb\xbf"
+LONGEST_FILE = 268435456
+
+
+class Unread(Exception):
+    """A file that couldn't be read: its name, and the reason in a few words."""
+
+    def __init__(self, name: bytes, reason: str):
+        super().__init__(name, reason)
+        self.name, self.reason = name, reason
+
+    def text(self) -> str:
+        return "%s can't be read here: %s." % (shown_name(self.name), self.reason)
+
+
+def content(name: bytes) -> bytes:
+    """The bytes of a plain file; a device or a pipe isn't opened, since it could keep us waiting."""
+    try:
+        found = os.stat(name)
+        if not stat.S_ISREG(found.st_mode):
+            raise Unread(name, "it is no plain file")
+        if found.st_size > LONGEST_FILE:
+            raise Unread(name, "it has %d bytes, more than argus takes" % found.st_size)
+        with open(name, "rb") as file:
+            return file.read()
+    except OSError as fault:
+        raise Unread(name, fault.strerror or "unknown reason") from fault
+    except ValueError as fault:
+        raise Unread(name, "its name can't be that of a file") from fault
+
+
+def lines_of(data: bytes) -> List[bytes]:
+    """The lines without their ends. A CR that no LF follows is a byte of its line."""
+    pieces = data.split(b"\n")
+    lines = [it[:-1] if it.endswith(b"\r") else it for it in pieces[:-1]]
+    return lines + [pieces[-1]] if pieces[-1] else lines
+
+
+def shown(text: bytes, most: int = 60) -> str:
+    """Bytes between double quotes, in one line: UTF-8 where they are that and can be printed, else byte by byte, cut where long."""
+    try:
+        said = text.decode("utf-8")
+    except UnicodeDecodeError:
+        said = "".join(chr(it) if 32 <= it < 127 else "\\x%02x" % it for it in text[: 4 * most])
+    said = "".join(it if it.isprintable() else "\\t" if it == "\t" else "".join("\\x%02x" % b for b in it.encode()) for it in said[: 4 * most])
+    return '"%s"' % said if len(said) <= most else '"%s.."' % said[:most]
+
+
+def bare(text: bytes, most: int = 80) -> str:
+    """A line or a word of a job or of metadata as it stands; between quotes where it is empty or has blanks at an end."""
+    said = shown(text, most)
+    return said[1:-1] if text and text == text.strip(BLANKS) else said
+
+
+def shown_name(name: bytes) -> str:
+    """The name of a file or a variable, without quotes where it needs none."""
+    said = shown(name, 80)
+    return said[1:-1] if name and b" " not in name else said
+
+
+def listed(items: Iterable[str], most: int = 8) -> str:
+    """Items joined by commas and an `and`; how many more there are, where they are many."""
+    every = list(items)
+    if len(every) > most:
+        return ", ".join(every[:most]) + " and %d more" % (len(every) - most)
+    return every[0] if len(every) == 1 else ", ".join(every[:-1]) + " and " + every[-1] if every else "none"
+
+
+def grouped(number: int) -> str:
+    """A whole number with commas between thousands, as the pages print limits."""
+    return format(number, ",d")
+
+
+def bytes_range(first: int, last: int) -> str:
+    return "byte %d" % first if first == last else "bytes %d to %d" % (first, last)
+
+
+def is_number(text: bytes) -> bool:
+    """Whether the text is a whole number: plain ASCII digits, at least one."""
+    return bool(text) and all(48 <= it <= 57 for it in text)
+
+
+class Word(NamedTuple):
+    """A word of a line: what it says, without quotes; where it begins, from 0; how many bytes it takes there; whether it is quoted."""
+
+    text: bytes
+    at: int
+    size: int
+    is_quoted: bool
+
+    def place(self) -> str:
+        return bytes_range(self.at + 1, self.at + max(self.size, 1))
+
+
+def words_of(line: bytes, at: int = 0) -> List[Word]:
+    """The words of a line of metadata from a place on: quoted, or runs of bytes without blanks."""
+    found = []
+    while at < len(line):
+        if line[at:at + 1] in (b" ", b"\t"):
+            at += 1
+            continue
+        end = line.find(b'"', at + 1) if line[at:at + 1] == b'"' else -1
+        if end >= 0:
+            found.append(Word(line[at + 1:end], at, end + 1 - at, True))
+            at = end + 1
+            continue
+        end = at
+        while end < len(line) and line[end:end + 1] not in (b" ", b"\t"):
+            end += 1
+        found.append(Word(line[at:end], at, end - at, False))
+        at = end
+    return found

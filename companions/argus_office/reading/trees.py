@@ -1,0 +1,127 @@
+"""The tree of a variable's codes: from a hierarchy file, from levels, or flat."""
+
+from typing import Dict, List, Set, Tuple
+
+from argus_office.reading.files import BLANKS, content, lines_of
+from argus_office.reading.metadata import Variable
+
+MOST_CODES, MOST_DEPTH = 5000, 9
+
+
+class Tree:
+    """A variable's codes in preorder, each with the place of its parent; place 0 is the total."""
+
+    def __init__(self, total: bytes):
+        self.codes, self.parents, self.depths, self.at = [total], [-1], [0], {total: 0}
+
+    def add(self, code: bytes, parent: int) -> int:
+        """Adds a code; one that is there stays where it is."""
+        if code not in self.at:
+            self.at[code] = len(self.codes)
+            self.codes.append(code)
+            self.parents.append(parent)
+            self.depths.append(self.depths[parent] + 1)
+        return self.at[code]
+
+    def has(self, code: bytes, level: int) -> bool:
+        """Whether a code is one of the tree, and lies no deeper than a level."""
+        return code in self.at and self.depths[self.at[code]] <= level
+
+    def within(self, level: int) -> List[int]:
+        """The places down to a level; the total has level 0."""
+        return [place for place, it in enumerate(self.depths) if it <= level]
+
+    def children(self) -> List[List[int]]:
+        found: List[List[int]] = [[] for _ in self.codes]
+        for place, parent in enumerate(self.parents):
+            if parent >= 0:
+                found[parent].append(place)
+        return found
+
+    def up(self, place: int, level: int = MOST_DEPTH) -> List[int]:
+        """The place itself, its parent, and so on to the total, as far as they lie no deeper than a level."""
+        found = [place]
+        while self.parents[found[-1]] >= 0:
+            found.append(self.parents[found[-1]])
+        return found[max(len(found) - 1 - level, 0):]
+
+
+class Listing:
+    """A hierarchy file: for each line that has a code its number, its depth and the code."""
+
+    def __init__(self, name: bytes, lead: bytes):
+        self.name, self.data = name, content(name)
+        self.raw = lines_of(self.data)
+        self.rows: List[Tuple[int, int, bytes]] = []
+        for k, line in enumerate(self.raw):
+            depth = 0
+            while lead and line.startswith(lead, depth * len(lead)):
+                depth += 1
+            if line.strip(BLANKS):
+                self.rows.append((k + 1, depth, line[depth * len(lead):].strip(BLANKS)))
+
+
+def from_file(variable: Variable) -> Tree:
+    """The tree of a variable with a hierarchy file; lines that argus would refuse are passed over."""
+    tree, above = Tree(variable.total()), [0]
+    for _, depth, code in Listing(variable.says("HIERCODELIST") or b"", variable.lead()).rows:
+        if code and code not in tree.at and depth < MOST_DEPTH:
+            above = above[: depth + 1]
+            above.append(tree.add(code, above[-1]))
+    for code in variable.missing:
+        tree.add(code, 0)
+    return tree
+
+
+def prefixes(code: bytes, widths: List[int]) -> List[bytes]:
+    """The parts of a code that end where a width ends, without the whole code."""
+    found, at = [], 0
+    for width in widths:
+        at += width
+        if 0 < at < len(code):
+            found.append(code[:at])
+    return found
+
+
+def from_levels(variable: Variable, codes: Set[bytes]) -> Tree:
+    """The tree of codes by digits, in ascending order of bytes."""
+    tree, widths = Tree(variable.total()), variable.levels()
+    every = set(codes)
+    for code in codes:
+        every.update(prefixes(code, widths))
+    for code in sorted(every):
+        inner = [it for it in prefixes(code, widths) if it in tree.at]
+        tree.add(code, tree.at[inner[-1]] if inner else 0)
+    return tree
+
+
+def code_list(name: bytes) -> List[bytes]:
+    """The codes of a code list, each once."""
+    found: Dict[bytes, None] = {}
+    for line in lines_of(content(name)):
+        code = line.partition(b",")[0].strip(BLANKS)
+        if len(code) > 1 and code[:1] == code[-1:] == b'"':
+            code = code[1:-1]
+        if code:
+            found.setdefault(code)
+    return list(found)
+
+
+def flat(variable: Variable, codes: Set[bytes]) -> Tree:
+    """The tree of a variable without levels: the codes of its list, then those of records in ascending order."""
+    tree, name = Tree(variable.total()), variable.says("CODELIST")
+    for code in code_list(name) if name is not None else []:
+        tree.add(code, 0)
+    for code in sorted(codes):
+        tree.add(code, 0)
+    return tree
+
+
+def kind_of(variable: Variable) -> str:
+    """Where a variable's tree comes from: `file`, `levels` or `flat`."""
+    return "file" if "HIERCODELIST" in variable.keywords else "levels" if "HIERLEVELS" in variable.keywords else "flat"
+
+
+def tree_of(variable: Variable, codes: Set[bytes]) -> Tree:
+    """The tree of a variable, with the codes that records have."""
+    return {"file": lambda: from_file(variable), "levels": lambda: from_levels(variable, codes), "flat": lambda: flat(variable, codes)}[kind_of(variable)]()
