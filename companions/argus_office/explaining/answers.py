@@ -4,7 +4,8 @@ import os
 import re
 from typing import List, NamedTuple, Optional, Tuple
 
-from argus_office.explaining import contributors, doubts, jobs, metadata, priors, protection, records, releases, trees, undecided
+from argus_office.explaining import (contributors, doubts, jobs, metadata, priors, protection,
+                                     records, releases, trees, undecided)
 from argus_office.explaining.texts import absent
 from argus_office.reading.book import Book
 from argus_office.reading.files import Unread, shown_name
@@ -15,7 +16,8 @@ WORDS = {"run": 2, "check": 2, "intervals": 3, "audit": 3, "migrate": 3, "demo":
 
 
 class Asked(NamedTuple):
-    """What is to be explained: the job's name (of migrate, the old certificate's), argus's own words where they are known, and its answer."""
+    """What is to be explained: the job's name (of migrate, the old certificate's), argus's own
+    words where they are known, and its answer."""
 
     job: bytes
     words: List[str]
@@ -23,8 +25,8 @@ class Asked(NamedTuple):
 
 
 class Said(NamedTuple):
-    """What is said: at most six lines, after a release one more for each pair of variables that overlap, and the lines for a priori files
-    that may follow."""
+    """What is said: at most six lines, after a release one more for each pair of variables that
+    overlap, and the lines for a priori files that may follow."""
 
     lines: List[str]
     rows: List[str]
@@ -93,7 +95,9 @@ def refused(job: Job, asked: Asked, said: str) -> List[str]:
         return metadata.explain(job.metadata(), int(found[1]), found[2])
     found = re.fullmatch(r"(hierarchy|codelist) (\d+) line (\d+): (\w+)", said)
     if found:
-        return trees.explain(job.metadata(), "HIERCODELIST" if found[1] == "hierarchy" else "CODELIST", int(found[2]), int(found[3]), found[4])
+        return trees.explain(job.metadata(),
+                             "HIERCODELIST" if found[1] == "hierarchy" else "CODELIST",
+                             int(found[2]), int(found[3]), found[4])
     found = re.fullmatch(r"record (\d+): (\w+)", said)
     if found:
         return records.explain(job, int(found[1]), found[2])
@@ -119,20 +123,46 @@ def whole_file(job: Job, asked: Asked, said: str) -> List[str]:
         return []
     number = int(found[2] or 0)
     if found[3] == "TooLong":
-        return ["The file has more bytes than argus takes: 268,435,456 for an input.", "Is it the right one? Leave out records without a response, and bytes that no field has; "
-                "don't cut it in two (the manual, Never split tables that share cells)."]
-    return {"metadata": lambda: jobs.absent_file(job, "OPENMETADATA"), "microdata": lambda: jobs.absent_file(job, "OPENMICRODATA"),
-            "codelist": lambda: trees.absent_file(job.metadata(), "CODELIST", number, job.name), "hierarchy": lambda: trees.absent_file(job.metadata(), "HIERCODELIST", number, job.name),
-            "apriori": lambda: priors.absent_file(job, number), "certificate": lambda: releases.absent_output(job, "CERTIFICATE", 0),
-            "contributors": lambda: releases.absent_output(job, "CONTRIBUTORS", 0), "table": lambda: releases.absent_output(job, "table", number),
-            "job": lambda: ["The job is %s, and it is there now; it wasn't when argus looked." % shown_name(job.name)]}.get(found[1], lambda: [])()
+        return [
+            "The file has more bytes than argus takes: 268,435,456 for an input.",
+            "Is it the right one? Leave out records without a response, and bytes that no "
+            "field has; "
+            "don't cut it in two (the manual, Never split tables that share cells)."
+        ]
+    return {
+        "metadata":
+        lambda: jobs.absent_file(job, "OPENMETADATA"),
+        "microdata":
+        lambda: jobs.absent_file(job, "OPENMICRODATA"),
+        "codelist":
+        lambda: trees.absent_file(job.metadata(), "CODELIST", number, job.name),
+        "hierarchy":
+        lambda: trees.absent_file(job.metadata(), "HIERCODELIST", number, job.name),
+        "apriori":
+        lambda: priors.absent_file(job, number),
+        "certificate":
+        lambda: releases.absent_output(job, "CERTIFICATE", 0),
+        "contributors":
+        lambda: releases.absent_output(job, "CONTRIBUTORS", 0),
+        "table":
+        lambda: releases.absent_output(job, "table", number),
+        "job":
+        lambda:
+        ["The job is %s, and it is there now; it wasn't when argus looked." % shown_name(job.name)]
+    }.get(found[1], lambda: [])()
 
 
 def other(job: Job, answer: str) -> List[str]:
     if answer.startswith(("read fault: ", "write fault: ")):
-        return ["The system's reason is on argus's own line on standard error. After a write fault nothing of this run may be published: remove the cause, and run again."]
+        return [
+            "The system's reason is on argus's own line on standard error. After a write fault "
+            "nothing of this run may be published: remove the cause, and run again."
+        ]
     if answer == "memory":
-        return ["There wasn't enough memory. Close other programs, take coarser codes, or run on a machine with more."]
+        return [
+            "There wasn't enough memory. Close other programs, take coarser codes, or run on a "
+            "machine with more."
+        ]
     return []
 
 
@@ -143,20 +173,24 @@ def migrated(asked: Asked, answer: str) -> List[str]:
     if answer == "refused: certificate: Absent":
         return ["The certificate is %s." % shown_name(asked.job)] + absent(asked.job, ".cert")
     found = re.fullmatch(r"refused: certificate line (\d+): (\w+)", answer)
-    return releases.unreadable(asked.job, int(found[1]), found[2], "argus certificate 2") if found else []
+    return releases.unreadable(asked.job, int(found[1]), found[2],
+                               "argus certificate 2") if found else []
 
 
 def is_answer(text: str) -> bool:
     """Whether a word is a line that argus prints."""
-    heads = ("refused: ", "cannot protect ", "undecided: ", "no rounding", "not accepted: ", "not guarded: ", "read fault: ", "write fault: ", "memory", "released: ",
-             "accepted", "intervals: ", "audited: ", "migrated", "multipliers ", "demo: ", "usage: ")
+    heads = ("refused: ", "cannot protect ", "undecided: ", "no rounding", "not accepted: ",
+             "not guarded: ", "read fault: ", "write fault: ", "memory", "released: ", "accepted",
+             "intervals: ", "audited: ", "migrated", "multipliers ", "demo: ", "usage: ")
     return text.startswith(heads)
 
 
 def asked_of(arguments: List[str], rest: str) -> Optional[Asked]:
-    """What is asked by the words of a call and what stands on standard input; nothing where it isn't clear."""
+    """What is asked by the words of a call and what stands on standard input; nothing where it
+    isn't clear."""
     lines = rest.split("\n")
-    if arguments[:1] and arguments[0] in WORDS and len(arguments) == WORDS[arguments[0]] and not is_answer(arguments[1]):
+    if arguments[:1] and arguments[0] in WORDS and len(arguments) == WORDS[
+            arguments[0]] and not is_answer(arguments[1]):
         return Asked(os.fsencode(arguments[1]), arguments, lines)
     if not arguments:
         return None

@@ -7,16 +7,16 @@ import sys
 from argus_office.explaining import answers, contributors
 from argus_office.reading.files import shown
 
-USAGE = (
-    "usage: argus explain JOB 'ANSWER' ['FURTHER LINE' ..] | argus explain run JOB <ANSWER | "
-    "argus explain --lines JOB 'ANSWER' 'multipliers ..'"
-)
+USAGE = ("usage: argus explain JOB 'ANSWER' ['FURTHER LINE' ..] | argus explain run JOB <ANSWER "
+         "| "
+         "argus explain --lines JOB 'ANSWER' 'multipliers ..'")
 # How long a call that has an answer waits for further lines on standard input, in seconds.
 WAIT = 0.3
 
 
 def given(is_asked):
-    """What stands on standard input. Where the words have the answer already, nobody waits long for more."""
+    """What stands on standard input. Where the words have the answer already, nobody waits long for
+    more."""
     if sys.stdin is None or sys.stdin.isatty():
         return ""
     data = b""
@@ -40,15 +40,21 @@ def needs_input(words):
 
 
 def printed(said, is_lines, words):
-    """The bytes to be printed: each line of the explanation behind two blanks, then the lines for a priori files."""
+    """The bytes to be printed: each line of the explanation behind two blanks, then the lines for a
+    priori files."""
     if is_lines:
         rows = [it for it in said.rows if said.rows.index(it) or len(heads(said.rows)) > 1]
         return "".join(it + "\n" for it in rows)
     text = "".join("  %s\n" % it for it in said.lines)
-    rows = said.rows if len(said.rows) <= contributors.MOST_LINES + 1 else said.rows[: contributors.MOST_LINES + 1]
-    text += "".join("%s\n" % (it if it.isprintable() else shown(it.encode("utf-8", "surrogateescape"), 300)[1:-1]) for it in rows)
+    rows = said.rows if len(
+        said.rows) <= contributors.MOST_LINES + 1 else said.rows[:contributors.MOST_LINES + 1]
+    text += "".join(
+        "%s\n" %
+        (it if it.isprintable() else shown(it.encode("utf-8", "surrogateescape"), 300)[1:-1])
+        for it in rows)
     if len(rows) < len(said.rows):
-        text += "  and %d lines more; argus explain --lines, with the same words, prints them all.\n" % (len(said.rows) - len(rows))
+        text += ("  and %d lines more; argus explain --lines, with the same words, prints them "
+                 "all.\n") % (len(said.rows) - len(rows))
     return text
 
 
@@ -63,7 +69,8 @@ def said(words):
     if not words or words[0] in ("-h", "--help"):
         print(USAGE)
         return 0 if words else 1
-    rest = given(answers.asked_of(words, "") is not None and words[0] not in answers.WORDS) if needs_input(words) else ""
+    rest = given(answers.asked_of(words, "") is not None
+                 and words[0] not in answers.WORDS) if needs_input(words) else ""
     asked = answers.asked_of(words, rest)
     if asked is None:
         print(USAGE)

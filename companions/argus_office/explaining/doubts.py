@@ -1,6 +1,8 @@
-"""`released: ..` with a doubt: what argus took as it stands, and what an office may not have meant. argus has released all the same.
+"""`released: ..` with a doubt: what argus took as it stands, and what an office may not have meant.
+argus has released all the same.
 
-Each doubt is one line. Nothing is said where nothing looks odd (docs/MANUAL.md, Before the first release of new data).
+Each doubt is one line. Nothing is said where nothing looks odd (docs/MANUAL.md, Before the first
+release of new data).
 """
 
 import re
@@ -9,7 +11,8 @@ from typing import Dict, List, Optional, Tuple
 
 from argus_office.explaining.overlaps import overlaps
 from argus_office.explaining.texts import foreign
-from argus_office.reading.files import BLANKS, MARK, Unread, bytes_range, content, grouped, lines_of, shown, shown_name
+from argus_office.reading.files import (BLANKS, MARK, Unread, bytes_range, content, grouped,
+                                        lines_of, shown, shown_name)
 from argus_office.reading.job import Job
 from argus_office.reading.metadata import Variable
 from argus_office.reading.records import Microdata, Record, is_skipped, units_of
@@ -17,7 +20,8 @@ from argus_office.reading.trees import code_list, kind_of
 
 # A value so many times the next largest is doubted.
 FAR = 1000
-# So many bytes of microdata are looked at after each run, which takes some seconds; larger files are looked at by hand alone.
+# So many bytes of microdata are looked at after each run, which takes some seconds; larger files
+# are looked at by hand alone.
 MOST_AFTER_A_RUN = 10_000_000
 # So many doubts are said at most, besides those about variables that overlap, which are all said.
 MOST_DOUBTS = 6
@@ -32,33 +36,46 @@ def explain(job: Job, answer: str, is_after_run: bool) -> List[str]:
 def odd(data: Microdata, job: Job, answer: str, is_after_run: bool) -> List[str]:
     """What looks odd in the records and in the files of codes."""
     if is_after_run and len(data.data) > MOST_AFTER_A_RUN:
-        return ["%s has %s bytes, so nothing was looked at but whether variables overlap. To look: argus explain %s '%s'" % (
-            shown_name(data.name), grouped(len(data.data)), shown_name(job.name), answer)]
+        return [
+            "%s has %s bytes, so nothing was looked at but whether variables overlap. To look: "
+            "argus explain %s '%s'" %
+            (shown_name(data.name), grouped(len(data.data)), shown_name(job.name), answer)
+        ]
     found = re.match(r"released: (\d+) records, (\d+) skipped", answer)
     if found and not int(found[1]):
-        return ["%s: no record counts (%s skipped), so every figure is 0." % (shown_name(data.name), found[2])] + marked(data)
+        return [
+            "%s: no record counts (%s skipped), so every figure is 0." %
+            (shown_name(data.name), found[2])
+        ] + marked(data)
     whole_file = foreign(data.data) if not data.data.startswith(MARK) else None
     said = ["%s: %s" % (shown_name(data.name), whole_file)] if whole_file else []
-    said += marked(data) + letters(data) + cut_codes(data) + cut_ranges(data) + cut_numbers(data) + far(data) + indented(data)
+    said += marked(data) + letters(data) + cut_codes(data) + cut_ranges(data) + cut_numbers(
+        data) + far(data) + indented(data)
     return said
 
 
 def marked(data: Microdata) -> List[str]:
     """Files with a byte-order mark in front, which is part of their first code or record."""
-    names = [data.name] + [name for it in data.names.spanning for name in (it.says("CODELIST"), it.says("HIERCODELIST")) if name is not None]
+    names = [data.name] + [
+        name for it in data.names.spanning
+        for name in (it.says("CODELIST"), it.says("HIERCODELIST")) if name is not None
+    ]
     found = []
     for name in names:
         try:
             if content(name).startswith(MARK):
-                found.append("%s begins with a byte-order mark (ef bb bf), which is part of its first %s. Take it out: tail -c +4 OLD > NEW."
-                             % (shown_name(name), "record" if name == data.name else "code"))
+                found.append(
+                    "%s begins with a byte-order mark (ef bb bf), which is part of its first "
+                    "%s. Take it out: tail -c +4 OLD > NEW." %
+                    (shown_name(name), "record" if name == data.name else "code"))
         except Unread:
             continue
     return found
 
 
 def letters(data: Microdata) -> List[str]:
-    """Records that letters of two bytes make longer than those without: what follows in them is read too far to the left."""
+    """Records that letters of two bytes make longer than those without: what follows in them is
+    read too far to the left."""
     plain = Counter(len(it.raw) for it in data.records if it.raw.isascii())
     usual = plain.most_common(1)[0][0] if plain else None
     longer = []
@@ -73,8 +90,11 @@ def letters(data: Microdata) -> List[str]:
             longer.append(it)
     if not longer:
         return []
-    return ["%s, line %d and %d more: letters of two bytes make these records longer than the others (%d bytes), so fields after them are read short. iconv -f UTF-8 -t ISO-8859-1 OLD > NEW"
-            % (shown_name(data.name), longer[0].line, len(longer) - 1, usual)]
+    return [
+        "%s, line %d and %d more: letters of two bytes make these records longer than the "
+        "others (%d bytes), so fields after them are read short. iconv -f UTF-8 -t ISO-8859-1 "
+        "OLD > NEW" % (shown_name(data.name), longer[0].line, len(longer) - 1, usual)
+    ]
 
 
 def counted(data: Microdata, variable: Variable) -> Dict[bytes, Tuple[int, Record]]:
@@ -96,7 +116,8 @@ def known(variable: Variable) -> List[bytes]:
 
 
 def cut_codes(data: Microdata) -> List[str]:
-    """Codes that with the byte before or behind their field are another code: a column that is a byte off."""
+    """Codes that with the byte before or behind their field are another code: a column that is a
+    byte off."""
     said = []
     for variable in data.names.spanning:
         if kind_of(variable) != "flat" or not variable.is_clear():
@@ -106,30 +127,50 @@ def cut_codes(data: Microdata) -> List[str]:
         for code, (many, record) in sorted(found.items()):
             start, end = (variable.first or 1) - 1, variable.last()
             before, behind = record.raw[start - 1:start] if start else b"", record.raw[end:end + 1]
-            whole = next((it for it in (before + code, code + behind) if it != code and it in there and found.get(it, (many, record))[0] >= many), None)
-            if len(code) > 1 and whole is not None and not record.raw[start:end].strip(BLANKS) == record.raw[start:end]:
-                said.append("%s, line %d: %s, %s, has the code %s (%d record%s), and with the byte beside it %s, another code: is the column a byte off there?" % (
-                    shown_name(data.name), record.line, shown_name(variable.name), bytes_range(start + 1, end), shown(code), many, "" if many == 1 else "s", shown(whole)))
+            whole = next(
+                (it for it in (before + code, code + behind)
+                 if it != code and it in there and found.get(it, (many, record))[0] >= many), None)
+            if len(code) > 1 and whole is not None and not record.raw[start:end].strip(
+                    BLANKS) == record.raw[start:end]:
+                said.append("%s, line %d: %s, %s, has the code %s (%d record%s), and with the byte "
+                            "beside it %s, another code: is the column a byte off there?" %
+                            (shown_name(data.name), record.line, shown_name(
+                                variable.name), bytes_range(start + 1, end), shown(code), many,
+                             "" if many == 1 else "s", shown(whole)))
                 break
     return said
 
 
 def cut_ranges(data: Microdata) -> List[str]:
-    """Codes that are ranges, as 0-249, with a digit of no field before them: their column begins earlier."""
+    """Codes that are ranges, as 0-249, with a digit of no field before them: their column begins
+    earlier."""
     for variable in data.names.spanning:
         start, end = (variable.first or 1) - 1, variable.last()
-        if not start or not variable.is_clear() or any((it.first or 1) <= start <= it.last() for it in data.metadata.variables if it.is_clear()):
+        if not start or not variable.is_clear() or any(
+            (it.first or 1) <= start <= it.last()
+                for it in data.metadata.variables if it.is_clear()):
             continue
-        odd = [it for it in data.rows() if it.raw[start - 1:start].isdigit() and re.fullmatch(rb"[0-9]*-[0-9]+", variable.field(it.raw).strip(BLANKS)) and it.raw[end - 1:end] in (b" ", b"\t")]
+        odd = [
+            it for it in data.rows() if it.raw[start - 1:start].isdigit() and re.fullmatch(
+                rb"[0-9]*-[0-9]+",
+                variable.field(it.raw).strip(BLANKS)) and it.raw[end - 1:end] in (b" ", b"\t")
+        ]
         if odd:
-            return ["%s, line %d%s: %s has the code %s, and before it, at byte %d, is the digit %s of no field: is the code %s?" % (
-                shown_name(data.name), odd[0].line, " and %d more" % (len(odd) - 1) if len(odd) > 1 else "", shown_name(variable.name), shown(variable.field(odd[0].raw).strip(BLANKS)),
-                start, odd[0].raw[start - 1:start].decode("latin-1"), shown(odd[0].raw[start - 1:end].strip(BLANKS)))]
+            return [
+                "%s, line %d%s: %s has the code %s, and before it, at byte %d, is the digit %s "
+                "of no field: is the code %s?" %
+                (shown_name(data.name), odd[0].line, " and %d more" %
+                 (len(odd) - 1) if len(odd) > 1 else "", shown_name(
+                     variable.name), shown(variable.field(odd[0].raw).strip(BLANKS)), start,
+                 odd[0].raw[start - 1:start].decode("latin-1"),
+                 shown(odd[0].raw[start - 1:end].strip(BLANKS)))
+            ]
     return []
 
 
 def cut_numbers(data: Microdata) -> List[str]:
-    """A response that ends with a blank, while the byte before its field is a digit of no field: its column begins earlier."""
+    """A response that ends with a blank, while the byte before its field is a digit of no field:
+    its column begins earlier."""
     variable = data.names.response
     if variable is None or not variable.is_clear() or (variable.first or 1) < 2:
         return []
@@ -137,11 +178,18 @@ def cut_numbers(data: Microdata) -> List[str]:
     fields = [it for it in data.metadata.variables if it.is_clear()]
     if any((it.first or 1) <= start <= it.last() for it in fields):
         return []
-    odd = [it for it in data.rows() if it.raw[start - 1:start].isdigit() and it.raw[start:start + 1].isdigit() and it.raw[end - 1:end] in (b" ", b"\t")]
+    odd = [
+        it for it in data.rows() if it.raw[start - 1:start].isdigit()
+        and it.raw[start:start + 1].isdigit() and it.raw[end - 1:end] in (b" ", b"\t")
+    ]
     if not odd:
         return []
-    return ["%s, line %d%s: byte %d, before %s, is a digit of no field, and the field ends with a blank: does the number begin there?" % (
-        shown_name(data.name), odd[0].line, " and %d more" % (len(odd) - 1) if len(odd) > 1 else "", start, shown_name(variable.name))]
+    return [
+        "%s, line %d%s: byte %d, before %s, is a digit of no field, and the field ends with a "
+        "blank: does the number begin there?" %
+        (shown_name(data.name), odd[0].line, " and %d more" %
+         (len(odd) - 1) if len(odd) > 1 else "", start, shown_name(variable.name))
+    ]
 
 
 def far(data: Microdata) -> List[str]:
@@ -159,12 +207,16 @@ def far(data: Microdata) -> List[str]:
             second = max(second, value)
     if first is None or second < 1 or first[0] < FAR * second or is_skipped(first[1].raw, variable):
         return []
-    return ["%s, line %d: %s is %s, %s times the next largest value: is it in another unit?" % (
-        shown_name(data.name), first[1].line, shown_name(variable.name), shown(variable.field(first[1].raw).strip(BLANKS)), grouped(first[0] // second))]
+    return [
+        "%s, line %d: %s is %s, %s times the next largest value: is it in another unit?" %
+        (shown_name(data.name), first[1].line, shown_name(variable.name),
+         shown(variable.field(first[1].raw).strip(BLANKS)), grouped(first[0] // second))
+    ]
 
 
 def indented(data: Microdata) -> List[str]:
-    """A hierarchy file with blanks before codes: they are no lead, so these codes are right below the total."""
+    """A hierarchy file with blanks before codes: they are no lead, so these codes are right below
+    the total."""
     said = []
     for variable in data.names.spanning:
         name = variable.says("HIERCODELIST")
@@ -174,6 +226,9 @@ def indented(data: Microdata) -> List[str]:
             continue
         odd = [k + 1 for k, it in enumerate(lines) if it[:1] in (b" ", b"\t") and it.strip(BLANKS)]
         if odd and name is not None:
-            said.append("%s, line %d%s: blanks before a code are no lead (that is %s), so it is right below the total: is it meant to be below the line above?" % (
-                shown_name(name), odd[0], " and %d more" % (len(odd) - 1) if len(odd) > 1 else "", shown(variable.lead())))
+            said.append(
+                "%s, line %d%s: blanks before a code are no lead (that is %s), so it is right "
+                "below the total: is it meant to be below the line above?" %
+                (shown_name(name), odd[0], " and %d more" %
+                 (len(odd) - 1) if len(odd) > 1 else "", shown(variable.lead())))
     return said

@@ -1,4 +1,5 @@
-"""What is wrong with a line of a job that argus refused (docs/MANUAL.md, What is refused in a job)."""
+"""What is wrong with a line of a job that argus refused (docs/MANUAL.md, What is refused in a job).
+"""
 
 import re
 from typing import List, Optional, Tuple
@@ -9,23 +10,44 @@ from argus_office.reading.files import BLANKS, Unread, bare, bytes_range, listed
 from argus_office.reading.job import Job, Line, names_of, value_of, written
 from argus_office.reading.words import nearest, same_but_case
 
-ELSEWHERE = ("OPENTABLEDATA", "READTABLE", "RECODE", "SEPARATOR", "SOLVER", "VERSIONINFO", "LOGBOOK", "COVERTABLES", "LINKED", "GOINTERACTIVE", "CLEAR")
+ELSEWHERE = ("OPENTABLEDATA", "READTABLE", "RECODE", "SEPARATOR", "SOLVER", "VERSIONINFO",
+             "LOGBOOK", "COVERTABLES", "LINKED", "GOINTERACTIVE", "CLEAR")
 MOST_TABLES, MOST_VARIABLES = 8, 8
 
 
 def explain(job: Job, number: int, kind: str, words: List[str]) -> List[str]:
-    """What to say of `refused: job line N: KIND`. WORDS are argus's own words where they are known."""
+    """What to say of `refused: job line N: KIND`. WORDS are argus's own words where they are known.
+    """
     if number == 0:
         return whole_job(job, kind, words)
     line = job.line(number)
     if line is None:
-        return ["%s has only %d lines now; has it changed since argus read it?" % (shown_name(job.name), len(job.lines))]
-    said = {"BadLine": bad_line, "UnknownCommand": unknown_command, "BadValue": bad_value, "Twice": twice, "TooMany": too_many,
-            "OtherResponse": other_response, "NoSuchTable": no_such_table, "NotInTable": not_in_table, "SameName": same_name, "NoSuchVariable": no_such_variable,
-            "NotSpanning": not_spanning, "NotNumeric": not_numeric, "NoWeight": no_weight}.get(kind)
+        return [
+            "%s has only %d lines now; has it changed since argus read it?" %
+            (shown_name(job.name), len(job.lines))
+        ]
+    said = {
+        "BadLine": bad_line,
+        "UnknownCommand": unknown_command,
+        "BadValue": bad_value,
+        "Twice": twice,
+        "TooMany": too_many,
+        "OtherResponse": other_response,
+        "NoSuchTable": no_such_table,
+        "NotInTable": not_in_table,
+        "SameName": same_name,
+        "NoSuchVariable": no_such_variable,
+        "NotSpanning": not_spanning,
+        "NotNumeric": not_numeric,
+        "NoWeight": no_weight
+    }.get(kind)
     lines = said(job, line) if said else []
     if not lines:
-        lines = [head(job, line), "Nothing is wrong with this line as it stands now; has the job or its metadata changed since argus read it?"]
+        lines = [
+            head(job, line),
+            "Nothing is wrong with this line as it stands now; has the job or its metadata "
+            "changed since argus read it?"
+        ]
     whole_file = foreign(job.data)
     return lines + [whole_file] if whole_file else lines
 
@@ -40,7 +62,8 @@ def head(job: Job, line: Line, at: int = -1, end: int = -1) -> str:
 
 
 def whole_job(job: Job, kind: str, words: List[str]) -> List[str]:
-    """Faults of the job as a whole, at line 0: a command that is missing, or words for another method."""
+    """Faults of the job as a whole, at line 0: a command that is missing, or words for another
+    method."""
     if kind.startswith("Missing"):
         command = kind.partition(" ")[2]
         form = COMMANDS[command][0] if command in COMMANDS else ""
@@ -48,17 +71,31 @@ def whole_job(job: Job, kind: str, words: List[str]) -> List[str]:
         if command == "WRITETABLE":
             there = {it.table for _, it in job.outputs()}
             lacking = [k for k in range(1, len(job.tables()) + 1) if k not in there]
-            lines = ["%s: table %s has no <WRITETABLE>. Add a line, as <WRITETABLE> (%d,\"table.csv\")" % (shown_name(job.name), listed(map(str, lacking)), (lacking or [1])[0])]
-        like = next((it for it in job.lines if it.word is None and command.lower() in it.raw.decode("latin-1").lower()), None)
-        return lines + (["Line %d speaks of it: %s" % (like.number, bare(like.raw))] if like else [])
+            lines = [
+                "%s: table %s has no <WRITETABLE>. Add a line, as <WRITETABLE> "
+                "(%d,\"table.csv\")" % (shown_name(job.name), listed(map(str, lacking)),
+                                        (lacking or [1])[0])
+            ]
+        like = next((it for it in job.lines
+                     if it.word is None and command.lower() in it.raw.decode("latin-1").lower()),
+                    None)
+        return lines + (["Line %d speaks of it: %s" %
+                         (like.number, bare(like.raw))] if like else [])
     method = job.method()
     line = next((it for it, _ in job.of("SUPPRESS")), None)
     where = job.place(line.number) if line else shown_name(job.name)
     if method.word == "RND":
-        return ["%s: the job rounds, RND(%d), and so hides no cell whose interval could be given." % (where, method.number),
-                "Of a rounded release `argus audit JOB OUT` says what a reader can find out."]
-    return ["%s: the job hides cells and doesn't round; an audit is for jobs with RND(b) alone." % where,
-            "Of a release with hidden cells `argus intervals JOB OUT` says what a reader can find out."]
+        return [
+            "%s: the job rounds, RND(%d), and so hides no cell whose interval could be given." %
+            (where, method.number),
+            "Of a rounded release `argus audit JOB OUT` says what a reader can find "
+            "out."
+        ]
+    return [
+        "%s: the job hides cells and doesn't round; an audit is for jobs with RND(b) alone." %
+        where, "Of a release with hidden cells `argus intervals JOB OUT` says what a reader "
+        "can find out."
+    ]
 
 
 def bad_line(job: Job, line: Line) -> List[str]:
@@ -66,7 +103,8 @@ def bad_line(job: Job, line: Line) -> List[str]:
     if line.word is not None or line.is_passed_over():
         return []
     text = line.raw.strip(BLANKS)
-    rule = "A line of a job is a command between < and > with its argument, or a comment that begins with //."
+    rule = ("A line of a job is a command between < and > with its argument, or a comment that "
+            "begins with //.")
     if text.startswith((b"#", b"*", b"%", b";", b"'", b"REM", b"--")):
         return [head(job, line), "A comment begins with // here."]
     if text.startswith((b"<>", b"<")) and b">" not in text:
@@ -77,7 +115,8 @@ def bad_line(job: Job, line: Line) -> List[str]:
     like = nearest(found[1].decode(), list(COMMANDS)) if found else None
     if like:
         return [head(job, line), "A command stands between < and >: %s" % COMMANDS[like][0]]
-    return [head(job, line), rule] + (["Put // in front of it if it is a comment."] if text[:1].isalpha() else [])
+    return [head(job, line), rule
+            ] + (["Put // in front of it if it is a comment."] if text[:1].isalpha() else [])
 
 
 def unknown_command(job: Job, line: Line) -> List[str]:
@@ -88,15 +127,26 @@ def unknown_command(job: Job, line: Line) -> List[str]:
     if line.word.strip() in COMMANDS:
         return [first, "There may be no blanks between < and >: <%s>." % line.word.strip()]
     if line.word in ELSEWHERE:
-        return [first, "tau-ARGUS has this command, and argus hasn't: delete the line (the manual, Coming from tau-ARGUS)."]
+        return [
+            first,
+            "tau-ARGUS has this command, and argus hasn't: delete the line (the manual, Coming "
+            "from tau-ARGUS)."
+        ]
     like = nearest(line.word, list(COMMANDS))
-    return [first, "argus has no such command%s" % (": is <%s> meant?" % like if like else "."),
-            "" if like else "The commands are %s." % ", ".join(COMMANDS)]
+    return [
+        first,
+        "argus has no such command%s" % (": is <%s> meant?" % like if like else "."),
+        "" if like else "The commands are %s." % ", ".join(COMMANDS)
+    ]
 
 
 def bad_value(job: Job, line: Line) -> List[str]:
     if line.word == "CONTRIBUTORS" and job.method().word == "RND" and value_of(line) is not None:
-        return [head(job, line), "The job rounds (RND), which hides nothing that a firm could work out.", "Delete the line, or take GH(n) or MOD()."]
+        return [
+            head(job,
+                 line), "The job rounds (RND), which hides nothing that a firm could work out.",
+            "Delete the line, or take GH(n) or MOD()."
+        ]
     if line.word not in COMMANDS:
         return []
     form, read = COMMANDS[line.word]
@@ -116,15 +166,20 @@ def twice(job: Job, line: Line) -> List[str]:
             continue
         of = " for table %d" % mine.table if isinstance(mine, (Prior, Output, Depth)) else ""
         of += " and %s" % shown_name(mine.variable) if isinstance(mine, Depth) else ""
-        return [head(job, line), "Line %d has <%s>%s already: %s" % (other.number, line.word, of, bare(other.raw)), "Delete one of the two."]
+        return [
+            head(job, line),
+            "Line %d has <%s>%s already: %s" % (other.number, line.word, of, bare(other.raw)),
+            "Delete one of the two."
+        ]
     return []
 
 
 def subject(value: object) -> Tuple[object, ...]:
-    """What a line is for, if its command may stand several times: a table; of DEPTH a table and a variable."""
+    """What a line is for, if its command may stand several times: a table; of DEPTH a table and a
+    variable."""
     if isinstance(value, Depth):
         return value.table, value.variable
-    return (value.table,) if isinstance(value, (Prior, Output)) else ()
+    return (value.table, ) if isinstance(value, (Prior, Output)) else ()
 
 
 def too_many(job: Job, line: Line) -> List[str]:
@@ -132,9 +187,17 @@ def too_many(job: Job, line: Line) -> List[str]:
     if len(tables) > MOST_TABLES:
         return [head(job, line), "This is the ninth table; a job has 8 at most."]
     earlier = {name for at, it in tables for name in it.variables if at.number < line.number}
-    new = [name for at, it in tables if at.number == line.number for name in it.variables if name not in earlier]
-    return [head(job, line), "The tables before have %d different variables, and this one brings %s; a job has 8 at most."
-            % (len(earlier), listed(map(shown_name, new))), "Leave a table or a variable out. Two jobs in place of one can disclose (the manual, Never split tables that share cells)."]
+    new = [
+        name for at, it in tables if at.number == line.number for name in it.variables
+        if name not in earlier
+    ]
+    return [
+        head(job, line),
+        "The tables before have %d different variables, and this one brings %s; a job has 8 at "
+        "most." % (len(earlier), listed(map(shown_name, new))),
+        "Leave a table or a variable out. Two jobs in place of one can disclose (the "
+        "manual, Never split tables that share cells)."
+    ]
 
 
 def other_response(job: Job, line: Line) -> List[str]:
@@ -142,9 +205,14 @@ def other_response(job: Job, line: Line) -> List[str]:
     mine = next((it for at, it in tables if at.number == line.number), None)
     if mine is None:
         return []
-    return [head(job, line), "Its response is %s; that of the first table (line %d) is %s, and all tables of a job have one."
-            % (shown_name(mine.response), tables[0][0].number, shown_name(tables[0][1].response)),
-            "Make a job for each response, but not where one is a part of the other (the manual, Never split tables that share cells)."]
+    return [
+        head(job, line),
+        "Its response is %s; that of the first table (line %d) is %s, and all tables of a job "
+        "have one." %
+        (shown_name(mine.response), tables[0][0].number, shown_name(tables[0][1].response)),
+        "Make a job for each response, but not where one is a part of the other (the "
+        "manual, Never split tables that share cells)."
+    ]
 
 
 def no_such_table(job: Job, line: Line) -> List[str]:
@@ -152,19 +220,26 @@ def no_such_table(job: Job, line: Line) -> List[str]:
     if not isinstance(mine, (Prior, Output, Depth)):
         return []
     many = len(job.tables())
-    return [head(job, line), "It speaks of table %d; the job has %s. Tables count from 1, in the order of the SPECIFYTABLE lines."
-            % (mine.table, "one table, which is 1" if many == 1 else "%d tables" % many)]
+    return [
+        head(job, line),
+        "It speaks of table %d; the job has %s. Tables count from 1, in the order of the "
+        "SPECIFYTABLE lines." %
+        (mine.table, "one table, which is 1" if many == 1 else "%d tables" % many)
+    ]
 
 
 def not_in_table(job: Job, line: Line) -> List[str]:
-    """A line DEPTH whose variable its table doesn't span: a name like it, or the tables that it spans."""
+    """A line DEPTH whose variable its table doesn't span: a name like it, or the tables that it
+    spans."""
     mine, tables = next((it for at, it in job.said if at.number == line.number), None), job.tables()
     if not isinstance(mine, Depth) or not 1 <= mine.table <= len(tables):
         return []
     at, there = tables[mine.table - 1]
     if mine.variable in there.variables:
         return []
-    said = "Table %d (line %d) is spanned by %s, and not by %s" % (mine.table, at.number, listed(map(shown_name, there.variables)), shown_name(mine.variable) if mine.variable else "an empty name")
+    said = "Table %d (line %d) is spanned by %s, and not by %s" % (
+        mine.table, at.number, listed(map(shown_name, there.variables)),
+        shown_name(mine.variable) if mine.variable else "an empty name")
     like = same_but_case(mine.variable, there.variables)
     where = [str(k) for k, (_, it) in enumerate(tables, 1) if mine.variable in it.variables]
     if like is not None:
@@ -173,15 +248,23 @@ def not_in_table(job: Job, line: Line) -> List[str]:
         said += ", which is the response"
     elif mine.variable.strip(BLANKS) in there.variables:
         said += ": blanks inside the quotes count"
-    near = nearest(mine.variable.decode("latin-1"), [it.decode("latin-1") for it in there.variables]) if like is None and not where else None
+    near = nearest(mine.variable.decode("latin-1"),
+                   [it.decode("latin-1")
+                    for it in there.variables]) if like is None and not where else None
     said += ": is it %s?" % near if near and ":" not in said else "."
-    spans = "It spans table%s %s." % ("s" if len(where) > 1 else "", listed(where)) if where else "It spans no table of the job."
-    return [at_name(job, line, mine.variable), said, "%s A line DEPTH is for a variable of its own table: correct the number or the name, or delete the line." % spans]
+    spans = "It spans table%s %s." % ("s" if len(where) > 1 else "",
+                                      listed(where)) if where else "It spans no table of the job."
+    return [
+        at_name(job, line, mine.variable), said,
+        "%s A line DEPTH is for a variable of its own table: correct the number or the name, "
+        "or delete the line." % spans
+    ]
 
 
 def read_by(job: Job) -> List[Tuple[str, bytes]]:
     """The files that the job reads, each with the place where it is named."""
-    found = [("line %d" % line.number, it) for word in ("OPENMICRODATA", "OPENMETADATA") for line, it in job.of(word) if isinstance(it, bytes)]
+    found = [("line %d" % line.number, it) for word in ("OPENMICRODATA", "OPENMETADATA")
+             for line, it in job.of(word) if isinstance(it, bytes)]
     found += [("line %d" % line.number, it.file) for line, it in job.priors()]
     try:
         metadata = job.metadata()
@@ -201,11 +284,19 @@ def same_name(job: Job, line: Line) -> List[str]:
         return []
     other = next((at for at, it in written(job) if it == name and at.number != line.number), None)
     if other is not None:
-        return [head(job, line), "Line %d writes the file %s too: %s" % (other.number, shown_name(name), bare(other.raw)), "Give one of them another name."]
+        return [
+            head(job, line),
+            "Line %d writes the file %s too: %s" %
+            (other.number, shown_name(name), bare(other.raw)), "Give one of them another name."
+        ]
     where = next((where for where, it in read_by(job) if it == name), None)
     if where is None:
         return []
-    return [head(job, line), "The job reads %s (%s), and would write over it. Give the output another name." % (shown_name(name), where)]
+    return [
+        head(job, line),
+        "The job reads %s (%s), and would write over it. Give the output another name." %
+        (shown_name(name), where)
+    ]
 
 
 def variables_at(job: Job, line: Line) -> Optional[Table]:
@@ -213,7 +304,8 @@ def variables_at(job: Job, line: Line) -> Optional[Table]:
 
 
 def at_name(job: Job, line: Line, name: bytes) -> str:
-    at = line.raw.rfind(b'"' + name + b'"') if b"|" in line.raw and line.raw.rfind(b'"' + name + b'"') > line.raw.find(b"|") else line.raw.find(b'"' + name + b'"')
+    at = line.raw.rfind(b'"' + name + b'"') if b"|" in line.raw and line.raw.rfind(
+        b'"' + name + b'"') > line.raw.find(b"|") else line.raw.find(b'"' + name + b'"')
     return head(job, line, at, at + len(name) + 2) if at >= 0 else head(job, line)
 
 
@@ -222,7 +314,8 @@ def no_such_variable(job: Job, line: Line) -> List[str]:
     table, metadata = variables_at(job, line), job.metadata()
     if table is None:
         return []
-    name = next((it for it in table.variables + [table.response] if metadata.find(it) is None), None)
+    name = next((it for it in table.variables + [table.response] if metadata.find(it) is None),
+                None)
     if name is None:
         return []
     there = [it.name for it in metadata.variables]
@@ -230,24 +323,33 @@ def no_such_variable(job: Job, line: Line) -> List[str]:
     like = same_but_case(name, there)
     marked = next((it for it in there if it == b"\xef\xbb\xbf" + name), None)
     if like is not None:
-        lines.append("The metadata (%s) have %s: large and small letters differ." % (shown_name(metadata.name), shown_name(like)))
+        lines.append("The metadata (%s) have %s: large and small letters differ." %
+                     (shown_name(metadata.name), shown_name(like)))
     elif marked is None and name.strip(BLANKS) in there:
-        lines.append("The metadata (%s) have the name without blanks at its ends." % shown_name(metadata.name))
+        lines.append("The metadata (%s) have the name without blanks at its ends." %
+                     shown_name(metadata.name))
     else:
         near = nearest(name.decode("latin-1"), [it.decode("latin-1") for it in there])
-        lines.append("No variable of the metadata (%s) has this name%s. They have %s." % (shown_name(metadata.name), ": is it %s?" % near if near else "", listed(map(shown_name, there), 12)))
+        lines.append("No variable of the metadata (%s) has this name%s. They have %s." %
+                     (shown_name(metadata.name), ": is it %s?" % near if near else "",
+                      listed(map(shown_name, there), 12)))
     whole_file = foreign(metadata.data)
     return lines + (["%s: %s" % (shown_name(metadata.name), whole_file)] if whole_file else [])
 
 
 def not_spanning(job: Job, line: Line) -> List[str]:
     table, metadata = variables_at(job, line), job.metadata()
-    variable = next((found for found in map(metadata.find, table.variables) if found and found.is_number()), None) if table else None
+    variable = next((found for found in map(metadata.find, table.variables)
+                     if found and found.is_number()), None) if table else None
     if variable is None:
         return []
     word = "NUMERIC" if "NUMERIC" in variable.keywords else "WEIGHT"
-    return [at_name(job, line, variable.name), "%s is a number (%s: <%s>), and a number can't span a table." % (shown_name(variable.name), metadata.place(variable.keywords[word][0]), word),
-            "Take a variable of classes; if its numbers are codes, delete <%s> there." % word]
+    return [
+        at_name(job, line, variable.name),
+        "%s is a number (%s: <%s>), and a number can't span a table." %
+        (shown_name(variable.name), metadata.place(variable.keywords[word][0]), word),
+        "Take a variable of classes; if its numbers are codes, delete <%s> there." % word
+    ]
 
 
 def not_numeric(job: Job, line: Line) -> List[str]:
@@ -255,8 +357,12 @@ def not_numeric(job: Job, line: Line) -> List[str]:
     variable = metadata.find(table.response) if table else None
     if variable is None or variable.is_number():
         return []
-    return [at_name(job, line, variable.name), "%s is added up here, but in the metadata it is a code (%s)." % (shown_name(variable.name), metadata.place(variable.line)),
-            "Add the line <NUMERIC> below it, and <DECIMALS> if it has a point."]
+    return [
+        at_name(job, line, variable.name),
+        "%s is added up here, but in the metadata it is a code (%s)." %
+        (shown_name(variable.name), metadata.place(variable.line)),
+        "Add the line <NUMERIC> below it, and <DECIMALS> if it has a point."
+    ]
 
 
 def no_weight(job: Job, line: Line) -> List[str]:
@@ -264,13 +370,18 @@ def no_weight(job: Job, line: Line) -> List[str]:
     if metadata.weight() is not None:
         return []
     at = line.raw.upper().find(b"WGT")
-    return [head(job, line, at, at + 6) if at >= 0 else head(job, line), "WGT(1) wants a weight, and no variable of the metadata (%s) has <WEIGHT>." % shown_name(metadata.name),
-            "Add <WEIGHT> below the weight's line there, or delete WGT(1)."]
+    return [
+        head(job, line, at, at + 6) if at >= 0 else head(job, line),
+        "WGT(1) wants a weight, and no variable of the metadata (%s) has <WEIGHT>." %
+        shown_name(metadata.name), "Add <WEIGHT> below the weight's line there, or delete WGT(1)."
+    ]
 
 
 def absent_file(job: Job, command: str) -> List[str]:
     """What to say of a file of the job that is absent."""
-    line, name = next(((at, it) for at, it in job.of(command) if isinstance(it, bytes)), (None, None))
+    line, name = next(((at, it) for at, it in job.of(command) if isinstance(it, bytes)),
+                      (None, None))
     if line is None or name is None:
         return ["%s has no line <%s>." % (shown_name(job.name), command)]
-    return ["%s: %s" % (job.place(line.number), bare(line.raw))] + absent(name, name[name.rfind(b"."):].decode("latin-1") if b"." in name else "", job.name)
+    return ["%s: %s" % (job.place(line.number), bare(line.raw))] + absent(
+        name, name[name.rfind(b"."):].decode("latin-1") if b"." in name else "", job.name)

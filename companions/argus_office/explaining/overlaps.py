@@ -1,7 +1,9 @@
-"""Spanning variables of one job that overlap: they share bytes of the record, or each code of one goes with a single code of the other.
+"""Spanning variables of one job that overlap: they share bytes of the record, or each code of one
+goes with a single code of the other.
 
-argus takes variables as they are, and knows no sums between two of them; a reader of their tables may. One variable that each table
-takes down to its own level says these sums: so each doubt has the DEPTH lines for it.
+argus takes variables as they are, and knows no sums between two of them; a reader of their tables
+may. One variable that each table takes down to its own level says these sums: so each doubt has the
+DEPTH lines for it.
 """
 
 import itertools
@@ -18,8 +20,8 @@ Partners = Dict[bytes, bytes]
 
 
 class Side:
-    """One way to look at a pair: each code of `one` occurs with a single code of `other`, as far as records were looked at."""
-
+    """One way to look at a pair: each code of `one` occurs with a single code of `other`, as far as
+    records were looked at."""
     def __init__(self, one: Variable, other: Variable):
         self.one, self.other = one, other
         self.partners: Partners = {}
@@ -48,7 +50,8 @@ class Side:
 
 
 class Pair(NamedTuple):
-    """Two variables that overlap: both ways to look at them, and the bytes that they share, from the first to the last (0 where none)."""
+    """Two variables that overlap: both ways to look at them, and the bytes that they share, from
+    the first to the last (0 where none)."""
 
     sides: Tuple[Side, Side]
     first: int
@@ -61,9 +64,13 @@ def shared_bytes(one: Variable, other: Variable) -> Tuple[int, int]:
 
 
 def pairs_of(data: Microdata) -> List[Pair]:
-    """The pairs of spanning variables that overlap. A way to look at a pair that doesn't hold is left at the first record that shows it."""
+    """The pairs of spanning variables that overlap. A way to look at a pair that doesn't hold is
+    left at the first record that shows it."""
     clear = [it for it in data.names.spanning if it.is_clear()]
-    pairs = [Pair((Side(one, other), Side(other, one)), *shared_bytes(one, other)) for one, other in itertools.combinations(clear, 2)]
+    pairs = [
+        Pair((Side(one, other), Side(other, one)), *shared_bytes(one, other))
+        for one, other in itertools.combinations(clear, 2)
+    ]
     live = [side for pair in pairs for side in pair.sides]
     for record in data.rows():
         is_over = False
@@ -93,15 +100,16 @@ def cut(tree: Tree, code: bytes, level: int) -> bytes:
 
 
 class Fit(NamedTuple):
-    """The level of the finer variable that stands for the coarser one, and whether its tree has this level already."""
+    """The level of the finer variable that stands for the coarser one, and whether its tree has
+    this level already."""
 
     level: int
     is_there: bool
 
 
 def fit_of(tree: Tree, partners: Partners) -> Fit:
-    """The level at which codes of the tree and their partners go together, by name if there is one; else the level where it would be: the
-    first one below those that the partners tell."""
+    """The level at which codes of the tree and their partners go together, by name if there is one;
+    else the level where it would be: the first one below those that the partners tell."""
     told, fitting = 0, []
     for level in range(1, max(tree.depths, default=0) + 1):
         both = {(cut(tree, code, level), it) for code, it in partners.items()}
@@ -115,7 +123,6 @@ def fit_of(tree: Tree, partners: Partners) -> Fit:
 
 class Doubt:
     """What is said of a pair of which one is finer."""
-
     def __init__(self, data: Microdata, side: Side):
         self.job, self.side = data.job, side
         self.finer, self.coarser = shown_name(side.one.name), shown_name(side.other.name)
@@ -125,31 +132,45 @@ class Doubt:
     def fit(self, table: int) -> Fit:
         """The level for a table that shows the coarser variable down to its own level."""
         level = self.job.level(table, self.side.other.name)
-        return fit_of(self.tree, {code: cut(self.others, it, level) for code, it in self.side.partners.items()})
+        return fit_of(
+            self.tree,
+            {code: cut(self.others, it, level)
+             for code, it in self.side.partners.items()})
 
     def remedy(self) -> str:
         """The DEPTH lines that would say it, and what the tables would be by."""
         one, other = self.side.one.name, self.side.other.name
-        tables = [(t, it.variables) for t, (_, it) in enumerate(self.job.tables(), 1) if other in it.variables]
+        tables = [(t, it.variables) for t, (_, it) in enumerate(self.job.tables(), 1)
+                  if other in it.variables]
         both = [t for t, it in tables if one in it]
         alone = [t for t, it in tables if one not in it]
         fits = {t: self.fit(t) for t, _ in tables}
-        lines = listed(["<DEPTH> (%d,\"%s\",%d)" % (t, shown(one)[1:-1], fits[t].level) for t in alone or both])
+        lines = listed([
+            "<DEPTH> (%d,\"%s\",%d)" % (t, shown(one)[1:-1], fits[t].level) for t in alone or both
+        ])
         said = ["%s %s out" % (numbered(both, "leaves", "leave"), self.coarser)] if both else []
-        said += ["%s %s in place of %s, with %s" % (numbered(alone, "takes", "take"), self.finer, self.coarser, lines)] if alone else []
-        said[-1] += "; with %s it shows the codes of %s alone" % (lines, self.coarser) if not alone else ""
+        said += [
+            "%s %s in place of %s, with %s" %
+            (numbered(alone, "takes", "take"), self.finer, self.coarser, lines)
+        ] if alone else []
+        said[-1] += "; with %s it shows the codes of %s alone" % (lines,
+                                                                  self.coarser) if not alone else ""
         lacking = sorted({it.level for it in fits.values() if not it.is_there})
-        first = "%s gets a hierarchy with the codes of %s as level %s, " % (self.finer, self.coarser, listed(map(str, lacking))) if lacking else ""
-        return "If they are one classification, %s%s." % (first + "and " if first else "", ", and ".join(said))
+        first = "%s gets a hierarchy with the codes of %s as level %s, " % (
+            self.finer, self.coarser, listed(map(str, lacking))) if lacking else ""
+        return "If they are one classification, %s%s." % (first + "and " if first else "",
+                                                          ", and ".join(said))
 
 
 def numbered(tables: List[int], one: str, many: str) -> str:
     """Tables with a verb: `table 2 takes`, `tables 2 and 3 take`."""
-    return "table%s %s %s" % ("s" if len(tables) > 1 else "", listed(map(str, tables)), many if len(tables) > 1 else one)
+    return "table%s %s %s" % ("s" if len(tables) > 1 else "", listed(map(
+        str, tables)), many if len(tables) > 1 else one)
 
 
 def finer_side(pair: Pair) -> Optional[Side]:
-    """The side whose first variable is the finer one, if one is: of two that tell each other the one with more levels, or the wider one."""
+    """The side whose first variable is the finer one, if one is: of two that tell each other the
+    one with more levels, or the wider one."""
     def depth(side: Side) -> Tuple[int, int]:
         return max(grown(side.one, set(side.partners)).depths), side.one.width or 1
 
@@ -160,11 +181,13 @@ def finer_side(pair: Pair) -> Optional[Side]:
 def why(pair: Pair) -> str:
     """Why the two are said to overlap."""
     telling = [it for it in pair.sides if it.is_telling()]
-    said = ["they share %s of the record" % bytes_range(pair.first, pair.last)] if pair.first else []
+    said = ["they share %s of the record" %
+            bytes_range(pair.first, pair.last)] if pair.first else []
     if len(telling) == 2:
         said.append("each code of one occurs with a single code of the other")
     elif telling:
-        said.append("each code of %s occurs with a single code of %s" % (shown_name(telling[0].one.name), shown_name(telling[0].other.name)))
+        said.append("each code of %s occurs with a single code of %s" %
+                    (shown_name(telling[0].one.name), shown_name(telling[0].other.name)))
     return " and ".join(said)
 
 
@@ -172,8 +195,9 @@ def unclear(data: Microdata, pair: Pair) -> str:
     """What is said where neither is finer."""
     one, other = (it.one.name for it in pair.sides)
     table = next((t for t, (_, it) in enumerate(data.job.tables(), 1) if one in it.variables), 1)
-    return "Neither is a level of the other. If they are parts of one classification, make it one variable with levels, and let each table take it down to its own, as with <DEPTH> (%d,\"%s\",1)." % (
-        table, shown(one)[1:-1])
+    return ("Neither is a level of the other. If they are parts of one classification, make it one "
+            "variable with levels, and let each table take it down to its own, as with <DEPTH> "
+            "(%d,\"%s\",1).") % (table, shown(one)[1:-1])
 
 
 def overlaps(data: Microdata) -> List[str]:
@@ -183,5 +207,8 @@ def overlaps(data: Microdata) -> List[str]:
         side = finer_side(pair)
         names = " and ".join(shown_name(it.one.name) for it in pair.sides)
         rest = Doubt(data, side).remedy() if side else unclear(data, pair)
-        said.append("%s: %s overlap: %s. argus knows no sums between the two, and a reader of several tables can add up across them. %s" % (shown_name(data.job.name), names, why(pair), rest))
+        said.append(
+            "%s: %s overlap: %s. argus knows no sums between the two, and a reader of several "
+            "tables can add up across them. %s" %
+            (shown_name(data.job.name), names, why(pair), rest))
     return said

@@ -1,7 +1,9 @@
-"""How far cells can go at most by plain sums: what every complete table keeps to, for the tables' readers and for each firm that stands alone.
+"""How far cells can go at most by plain sums: what every complete table keeps to, for the tables'
+readers and for each firm that stands alone.
 
-A cell that is always shown, or that a firm knows, has its true value. Sums then give each cell a least and a greatest value. They may not be
-the narrowest, but no complete table goes past them: a level beyond them can't be reached.
+A cell that is always shown, or that a firm knows, has its true value. Sums then give each cell a
+least and a greatest value. They may not be the narrowest, but no complete table goes past them: a
+level beyond them can't be reached.
 """
 
 from typing import Dict, Iterable, List, NamedTuple, Optional, Set, Tuple
@@ -20,8 +22,8 @@ class Room(NamedTuple):
 
 
 class Ends:
-    """Least and greatest values of the cells over those of another, and which cells differ from these."""
-
+    """Least and greatest values of the cells over those of another, and which cells differ from
+    these."""
     def __init__(self, rooms: "Rooms"):
         self.rooms = rooms
         self.low: Dict[int, int] = {}
@@ -49,7 +51,6 @@ class Ends:
 
 class Rooms:
     """The rooms of all cells."""
-
     def __init__(self, book: Book, relations: List[Relation]):
         self.book, self.relations, self.work = book, relations, 0
         self.of: List[List[int]] = [[] for _ in book.cells]
@@ -87,7 +88,8 @@ class Rooms:
         self.work += len(parts)
         moved = []
         lows, highs = [ends.least(it) for it in parts], [ends.greatest(it) for it in parts]
-        low, high, open_ = sum(lows), sum(it for it in highs if it is not None), sum(1 for it in highs if it is None)
+        low, high, open_ = sum(lows), sum(it for it in highs
+                                          if it is not None), sum(1 for it in highs if it is None)
         if ends.raise_low(total, low) or (not open_ and ends.lower_high(total, high)):
             moved.append(total)
         if not open_ and ends.lower_high(total, high):
@@ -109,7 +111,10 @@ class Rooms:
         for cell in known:
             ends.low[cell] = ends.high[cell] = self.book.cells[cell].truth
         self.spread(ends, sorted({number for cell in known for number in self.of[cell]}))
-        return {cell: self.room(ends, cell) for cell in set(ends.low) | set(ends.high) if cell not in known}
+        return {
+            cell: self.room(ends, cell)
+            for cell in set(ends.low) | set(ends.high) if cell not in known
+        }
 
     def room(self, ends: Ends, cell: int) -> Room:
         truth, most = self.book.cells[cell].truth, ends.greatest(cell)

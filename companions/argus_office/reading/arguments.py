@@ -1,7 +1,8 @@
-"""The arguments of a job's commands, read as the manual's table of commands has them, with what is wrong and where.
+"""The arguments of a job's commands, read as the manual's table of commands has them, with what is
+wrong and where.
 
-Each reader goes over the bytes behind `<WORD>` and gives what they say, or raises `Wrong` with the place of the first fault and what may
-stand there. Places are counted in the whole line, from 0.
+Each reader goes over the bytes behind `<WORD>` and gives what they say, or raises `Wrong` with the
+place of the first fault and what may stand there. Places are counted in the whole line, from 0.
 """
 
 from typing import Callable, Dict, List, NamedTuple, Optional, Tuple
@@ -35,8 +36,8 @@ def form_of(form: str, numbers: List[Tuple[str, int, int]]) -> str:
 
 
 class Wrong(Exception):
-    """The first fault of an argument: from which byte of the line to which (the end not counted), and what is wrong in a sentence."""
-
+    """The first fault of an argument: from which byte of the line to which (the end not counted),
+    and what is wrong in a sentence."""
     def __init__(self, at: int, end: int, why: str):
         super().__init__(at, end, why)
         self.at, self.end, self.why = at, end, why
@@ -44,7 +45,6 @@ class Wrong(Exception):
 
 class Scanner:
     """Goes over a line from a place on, token by token."""
-
     def __init__(self, line: bytes, at: int):
         self.line, self.at = line, at
         self.skip()
@@ -83,7 +83,8 @@ class Scanner:
         if end is None:
             end = start
             marks = BLANKS + b",;&+|()"
-            while end < len(self.line) and (end == start or (self.line[start] not in marks and self.line[end] not in marks)):
+            while end < len(self.line) and (end == start or (self.line[start] not in marks
+                                                             and self.line[end] not in marks)):
                 end += 1
         return Wrong(start, max(end, start), why)
 
@@ -99,7 +100,8 @@ class Scanner:
         start = self.at
         digits = self.run(lambda it: 48 <= it <= 57)
         if not digits:
-            raise self.wrong("%s is a whole number from %s to %s." % (what, grouped(low), grouped(high)), start)
+            raise self.wrong(
+                "%s is a whole number from %s to %s." % (what, grouped(low), grouped(high)), start)
         end = start + len(digits)
         if self.peek() in (b".", b"-", b"+") or (self.at == end and self.peek().isalpha()):
             raise self.wrong("%s is a whole number: digits and nothing else." % what, start)
@@ -115,7 +117,8 @@ class Scanner:
             raise self.unquoted(what, example)
         end = self.line.find(b'"', start + 1)
         if end < 0:
-            raise Wrong(start, len(self.line.rstrip(BLANKS)), "The second double quote is missing: %s." % example)
+            raise Wrong(start, len(self.line.rstrip(BLANKS)),
+                        "The second double quote is missing: %s." % example)
         self.at = end + 1
         self.skip()
         return self.line[start + 1:end]
@@ -126,10 +129,13 @@ class Scanner:
             return Wrong(self.at, self.at, "Here %s is missing: %s." % (what, example))
         curled = curled_in(rest)
         if curled == 0:
-            return self.wrong("These are curled quotes, as a word processor puts them. Straight ones are wanted: %s." % example)
+            return self.wrong(
+                "These are curled quotes, as a word processor puts them. Straight ones are "
+                "wanted: %s." % example)
         if rest[:1] == b"'":
             return self.wrong("These are single quotes. Double ones are wanted: %s." % example)
-        return self.wrong("%s is wanted here in straight double quotes: %s." % (what[:1].upper() + what[1:], example))
+        return self.wrong("%s is wanted here in straight double quotes: %s." %
+                          (what[:1].upper() + what[1:], example))
 
     def file(self, what: str, example: str) -> bytes:
         """The name of a file, in its limits."""
@@ -139,11 +145,15 @@ class Scanner:
         if not name:
             raise Wrong(start, end, "The name is empty: %s." % example)
         if len(name) > MOST_NAME:
-            raise Wrong(start, end, "The name has %d bytes; a name of a file has 255 at most." % len(name))
+            raise Wrong(start, end,
+                        "The name has %d bytes; a name of a file has 255 at most." % len(name))
         odd = next((k for k, it in enumerate(name) if not 32 <= it < 127), None)
         if odd is not None:
-            raise Wrong(start + 1 + odd, start + 2 + odd, "A name of a file has printable ASCII letters alone (no umlauts, accents or tabs); this "
-                        "byte is %02x. Give the file another name." % name[odd])
+            raise Wrong(
+                start + 1 + odd, start + 2 + odd,
+                "A name of a file has printable ASCII letters alone (no umlauts, accents or "
+                "tabs); this "
+                "byte is %02x. Give the file another name." % name[odd])
         return name
 
 
@@ -180,12 +190,15 @@ def table(scan: Scanner) -> Table:
             raise scan.wrong("A bar | comes before the response: %s." % TABLE_FORM)
         variable = scan.quoted("a variable", TABLE_FORM)
         if variable in variables:
-            raise Wrong(start, start + len(variable) + 2, "A table can't be spanned by one variable twice.")
+            raise Wrong(start, start + len(variable) + 2,
+                        "A table can't be spanned by one variable twice.")
         variables.append(variable)
         if len(variables) == 7:
-            raise Wrong(start, start + len(variable) + 2, "This is the seventh variable; a table has one to six.")
+            raise Wrong(start, start + len(variable) + 2,
+                        "This is the seventh variable; a table has one to six.")
     if not variables:
-        raise scan.wrong("Before the bar the variables of the table are missing: %s." % TABLE_FORM, max(scan.at - 1, 0))
+        raise scan.wrong("Before the bar the variables of the table are missing: %s." % TABLE_FORM,
+                         max(scan.at - 1, 0))
     response = scan.quoted("the response", TABLE_FORM)
     part = 0
     while scan.takes(b"|"):
@@ -194,8 +207,11 @@ def table(scan: Scanner) -> Table:
         if scan.peek() == b'"':
             said = scan.quoted("a part", TABLE_FORM)
             if said and not (part == 1 and said == response):
-                raise Wrong(start, start + len(said) + 2, "argus has no shadow and no cost variable: after the response a bar may have nothing, "
-                            '"" or, the first of them, the response again.')
+                raise Wrong(
+                    start, start + len(said) + 2,
+                    "argus has no shadow and no cost variable: after the response a bar may "
+                    "have nothing, "
+                    '"" or, the first of them, the response again.')
     scan.ends("After the response nothing may follow but bars.")
     return Table(variables, response)
 
@@ -213,11 +229,17 @@ def rule_word(scan: Scanner) -> Tuple[str, int]:
     if word in RULES:
         return word, start
     if not word:
-        raise scan.wrong("A rule is missing here; rules are joined by |, as FREQ(3,30)|P(10).", start)
+        raise scan.wrong("A rule is missing here; rules are joined by |, as FREQ(3,30)|P(10).",
+                         start)
     if word in ("MIS", "REQ", "HOLD"):
-        raise Wrong(start, start + len(word), "%s is a rule of tau-ARGUS that argus doesn't have; it has %s." % (word, ", ".join(RULES)))
+        raise Wrong(
+            start, start + len(word),
+            "%s is a rule of tau-ARGUS that argus doesn't have; it has %s." %
+            (word, ", ".join(RULES)))
     like = nearest(word, RULES)
-    raise Wrong(start, start + len(word), "There is no rule of this name%s. The rules are %s." % (", is it %s?" % like if like else "", ", ".join(RULES)))
+    raise Wrong(
+        start, start + len(word), "There is no rule of this name%s. The rules are %s." %
+        (", is it %s?" % like if like else "", ", ".join(RULES)))
 
 
 def numbers_of(scan: Scanner, form: str, ranges: List[Tuple[str, int, int]]) -> List[int]:
@@ -227,7 +249,9 @@ def numbers_of(scan: Scanner, form: str, ranges: List[Tuple[str, int, int]]) -> 
     found: List[int] = []
     for k, (name, low, high) in enumerate(ranges):
         if scan.peek() == b")" or scan.is_done():
-            missing = "Its number is missing" if len(ranges) == 1 else "It has %s; two are wanted" % ("one number" if k == 1 else "no number")
+            missing = "Its number is missing" if len(
+                ranges) == 1 else "It has %s; two are wanted" % (
+                    "one number" if k == 1 else "no number")
             raise scan.wrong("%s. %s." % (missing, full))
         found.append(scan.number(name, low, high))
         if k + 1 < len(ranges) and scan.peek() != b")":
@@ -236,9 +260,14 @@ def numbers_of(scan: Scanner, form: str, ranges: List[Tuple[str, int, int]]) -> 
         start = scan.at
         digits = scan.run(lambda it: 48 <= it <= 57)
         if not digits or int(digits[:9]) != 1 or len(digits) > 9:
-            raise scan.wrong("P(p,n) is there for n = 1 alone: argus has no rule for intruders who work together.", start)
+            raise scan.wrong(
+                "P(p,n) is there for n = 1 alone: argus has no rule for intruders who work "
+                "together.", start)
     if scan.peek() == b",":
-        raise scan.wrong("%s. %s." % ("It takes no number" if not ranges else "It takes one number" if len(ranges) == 1 else "It takes two numbers", full))
+        raise scan.wrong(
+            "%s. %s." %
+            ("It takes no number" if not ranges else
+             "It takes one number" if len(ranges) == 1 else "It takes two numbers", full))
     scan.needs(b")", "A closing parenthesis is wanted here: %s." % full)
     return found
 
@@ -253,14 +282,19 @@ def rules(scan: Scanner) -> List[Rule]:
             raise Wrong(start, start + len(word), "%s stands twice; it may stand once." % word)
         found.append(Rule(word, numbers))
         if len([it for it in found if it.word not in ("MAN", "WGT")]) == 9:
-            raise Wrong(start, start + len(word), "This is the ninth rule; a job has one to eight of FREQ, NK, P, PQ and ZERO.")
+            raise Wrong(
+                start, start + len(word),
+                "This is the ninth rule; a job has one to eight of FREQ, NK, P, PQ and ZERO.")
         if scan.is_done():
             break
         if scan.peek() in (b",", b";", b"&", b"+"):
             raise scan.wrong("Rules are joined by |, as FREQ(3,30)|P(10).")
         scan.needs(b"|", "After a rule comes | and the next rule, or the end of the line.")
     if not any(it.word not in ("MAN", "WGT") for it in found):
-        raise Wrong(scan.at, scan.at, "A rule that makes cells sensitive is missing: at least one of FREQ, NK, P, PQ and ZERO.")
+        raise Wrong(
+            scan.at, scan.at,
+            "A rule that makes cells sensitive is missing: at least one of FREQ, NK, P, PQ and "
+            "ZERO.")
     return found
 
 
@@ -277,14 +311,22 @@ PRIOR_FORM = '<APRIORI> "cells.hst",1,","'
 
 def prior(scan: Scanner) -> Prior:
     name = scan.file("the name of the a priori file", PRIOR_FORM)
-    scan.needs(b",", "A comma and the number of the table are wanted after the name: %s." % PRIOR_FORM)
+    scan.needs(b",",
+               "A comma and the number of the table are wanted after the name: %s." % PRIOR_FORM)
     number = table_number(scan, PRIOR_FORM)
-    scan.needs(b",", "A comma and the byte between the fields of the file, in double quotes, are wanted here: %s." % PRIOR_FORM)
+    scan.needs(
+        b",", "A comma and the byte between the fields of the file, in double quotes, are wanted "
+        "here: %s." % PRIOR_FORM)
     start = scan.at
-    separator = scan.line[start + 1:start + 2] if scan.line[start:start + 3] == b'"""' else scan.quoted("the byte between the fields of the file", PRIOR_FORM)
+    separator = scan.line[start + 1:start +
+                          2] if scan.line[start:start + 3] == b'"""' else scan.quoted(
+                              "the byte between the fields of the file", PRIOR_FORM)
     if len(separator) != 1 or separator in b'0123456789." \t\r':
         end = start + len(separator) + 2
-        raise Wrong(start, end, "One byte is wanted between the quotes, and no digit, point, double quote, blank or CR: %s." % PRIOR_FORM)
+        raise Wrong(
+            start, end,
+            "One byte is wanted between the quotes, and no digit, point, double quote, blank "
+            "or CR: %s." % PRIOR_FORM)
     scan.ends("Nothing may follow the byte between the fields.")
     return Prior(name, number, separator)
 
@@ -293,7 +335,9 @@ def table_number(scan: Scanner, form: str) -> int:
     start = scan.at
     digits = scan.run(lambda it: 48 <= it <= 57)
     if not digits:
-        raise scan.wrong("The number of a table is wanted here, from 1 in the order of the SPECIFYTABLE lines: %s." % form, start)
+        raise scan.wrong(
+            "The number of a table is wanted here, from 1 in the order of the SPECIFYTABLE "
+            "lines: %s." % form, start)
     return int(digits) if len(digits) < 20 else 10**20
 
 
@@ -301,7 +345,10 @@ def cost(scan: Scanner) -> str:
     start = scan.at
     word = scan.run(lambda it: it not in BLANKS).decode("latin-1").upper()
     if word not in ("VALUE", "FREQ", "UNIT"):
-        raise Wrong(start, start + len(word), "VALUE, FREQ or UNIT may stand here: hiding a cell costs by its value, by its records, or the same for each.")
+        raise Wrong(
+            start, start + len(word),
+            "VALUE, FREQ or UNIT may stand here: hiding a cell costs by its value, by its "
+            "records, or the same for each.")
     scan.ends("Nothing may follow %s." % word)
     return word
 
@@ -323,9 +370,13 @@ def method(scan: Scanner) -> Method:
     start = scan.at
     word = scan.run(lambda it: chr(it).isalpha() and it < 128).decode().upper()
     if word not in METHODS:
-        also = " %s is a method of tau-ARGUS that argus doesn't have." % word if word in ("OPT", "NET", "CTA") else ""
-        raise Wrong(start, start + max(len(word), 1), "GH(n), MOD() or RND(b) may stand here: hypercubes in n passes, 1 to 8; in one pass; or rounding "
-                    "to multiples of b, 1 to 10^9.%s" % also)
+        also = " %s is a method of tau-ARGUS that argus doesn't have." % word if word in (
+            "OPT", "NET", "CTA") else ""
+        raise Wrong(
+            start, start + max(len(word), 1),
+            "GH(n), MOD() or RND(b) may stand here: hypercubes in n passes, 1 to 8; in one "
+            "pass; or rounding "
+            "to multiples of b, 1 to 10^9.%s" % also)
     numbers = numbers_of(scan, *METHODS[word])
     scan.ends("Nothing may follow the method: it is that of all tables.")
     return Method(word, numbers[0] if numbers else 1)
@@ -344,9 +395,13 @@ OUTPUT_FORM = '<WRITETABLE> (1,"table.csv")'
 def output(scan: Scanner) -> Output:
     scan.needs(b"(", "An opening parenthesis is wanted here: %s." % OUTPUT_FORM)
     number = table_number(scan, OUTPUT_FORM)
-    scan.needs(b",", "A comma is wanted between the number of the table and the name of its file: %s." % OUTPUT_FORM)
+    scan.needs(
+        b",", "A comma is wanted between the number of the table and the name of its file: %s." %
+        OUTPUT_FORM)
     if is_number(scan.peek()):
-        raise scan.wrong("argus has one form of output, without a kind and without options: %s." % OUTPUT_FORM, scan.at, len(scan.line.rstrip(BLANKS)))
+        raise scan.wrong(
+            "argus has one form of output, without a kind and without options: %s." % OUTPUT_FORM,
+            scan.at, len(scan.line.rstrip(BLANKS)))
     name = scan.file("the name of the table's file", OUTPUT_FORM)
     scan.needs(b")", "A closing parenthesis is wanted here: %s." % OUTPUT_FORM)
     scan.ends("Nothing may follow the parenthesis.")
@@ -354,7 +409,8 @@ def output(scan: Scanner) -> Output:
 
 
 class Depth(NamedTuple):
-    """What a line DEPTH says: the table, a variable that it spans, and the last level of its codes that the table shows."""
+    """What a line DEPTH says: the table, a variable that it spans, and the last level of its codes
+    that the table shows."""
 
     table: int
     variable: bytes
@@ -369,12 +425,18 @@ MOST_LEVEL = 9
 def depth(scan: Scanner) -> Depth:
     scan.needs(b"(", "An opening parenthesis is wanted here: %s." % DEPTH_FORM)
     number = table_number(scan, DEPTH_FORM)
-    scan.needs(b",", "A comma is wanted between the number of the table and the variable: %s." % DEPTH_FORM)
+    scan.needs(
+        b",",
+        "A comma is wanted between the number of the table and the variable: %s." % DEPTH_FORM)
     variable = scan.quoted("a variable of the table", DEPTH_FORM)
-    scan.needs(b",", "A comma and the last level that the table shows are wanted after the variable: %s." % DEPTH_FORM)
+    scan.needs(
+        b",", "A comma and the last level that the table shows are wanted after the variable: %s." %
+        DEPTH_FORM)
     level = scan.number("The last level that the table shows", 1, MOST_LEVEL)
     if scan.peek() == b",":
-        raise scan.wrong("After the level comes the closing parenthesis: %s. Each variable has a line of its own." % DEPTH_FORM)
+        raise scan.wrong(
+            "After the level comes the closing parenthesis: %s. Each variable has a line of "
+            "its own." % DEPTH_FORM)
     scan.needs(b")", "A closing parenthesis is wanted here: %s." % DEPTH_FORM)
     scan.ends("Nothing may follow the parenthesis.")
     return Depth(number, variable, level)
@@ -382,8 +444,12 @@ def depth(scan: Scanner) -> Depth:
 
 # For each command its form as an example, and its reader.
 COMMANDS: Dict[str, Tuple[str, Callable[[Scanner], object]]] = {
-    "OPENMICRODATA": ('<OPENMICRODATA> "firms.asc"', lambda it: file_alone(it, "the name of the microdata", '<OPENMICRODATA> "firms.asc"')),
-    "OPENMETADATA": ('<OPENMETADATA> "firms.rda"', lambda it: file_alone(it, "the name of the metadata", '<OPENMETADATA> "firms.rda"')),
+    "OPENMICRODATA":
+    ('<OPENMICRODATA> "firms.asc"',
+     lambda it: file_alone(it, "the name of the microdata", '<OPENMICRODATA> "firms.asc"')),
+    "OPENMETADATA":
+    ('<OPENMETADATA> "firms.rda"',
+     lambda it: file_alone(it, "the name of the metadata", '<OPENMETADATA> "firms.rda"')),
     "SPECIFYTABLE": (TABLE_FORM, table),
     "SAFETYRULE": ("<SAFETYRULE> FREQ(3,30)|P(10)", rules),
     "READMICRODATA": ("<READMICRODATA>", nothing),
@@ -393,7 +459,11 @@ COMMANDS: Dict[str, Tuple[str, Callable[[Scanner], object]]] = {
     "NODES": ("<NODES> 1000000", count),
     "SUPPRESS": ("<SUPPRESS> MOD()", method),
     "WRITETABLE": (OUTPUT_FORM, output),
-    "CERTIFICATE": ('<CERTIFICATE> "table.cert"', lambda it: file_alone(it, "the name of the certificate", '<CERTIFICATE> "table.cert"')),
-    "CONTRIBUTORS": ('<CONTRIBUTORS> "firms.extra"', lambda it: file_alone(it, "the name of the file", '<CONTRIBUTORS> "firms.extra"')),
+    "CERTIFICATE":
+    ('<CERTIFICATE> "table.cert"',
+     lambda it: file_alone(it, "the name of the certificate", '<CERTIFICATE> "table.cert"')),
+    "CONTRIBUTORS":
+    ('<CONTRIBUTORS> "firms.extra"',
+     lambda it: file_alone(it, "the name of the file", '<CONTRIBUTORS> "firms.extra"')),
     "DEPTH": (DEPTH_FORM, depth),
 }

@@ -1,7 +1,9 @@
-"""The cells of a job: numbered, added up and judged by the rules and the a priori files, as the manual says it.
+"""The cells of a job: numbered, added up and judged by the rules and the a priori files, as the
+manual says it.
 
-Amounts are whole numbers of units; a unit is the last decimal of the response, and with weights that of the weight beside it. This is
-written anew from the manual (How cells are numbered, Rules in a job, Lines of an a priori file), and is only for what `explain` says.
+Amounts are whole numbers of units; a unit is the last decimal of the response, and with weights
+that of the weight beside it. This is written anew from the manual (How cells are numbered, Rules in
+a job, Lines of an a priori file), and is only for what `explain` says.
 """
 
 import heapq
@@ -19,7 +21,8 @@ Relation = Tuple[int, List[int]]
 
 
 class Row(NamedTuple):
-    """A record that counts: its record, its places in the trees, its value in units of the response, and its weight in steps."""
+    """A record that counts: its record, its places in the trees, its value in units of the
+    response, and its weight in steps."""
 
     record: Record
     places: Name
@@ -31,7 +34,8 @@ class Row(NamedTuple):
 
 
 class Statement(NamedTuple):
-    """A line of an a priori file: the file, its line and its table; the codes of the cell; the keyword and its fields."""
+    """A line of an a priori file: the file, its line and its table; the codes of the cell; the
+    keyword and its fields."""
 
     file: bytes
     line: int
@@ -46,11 +50,13 @@ class Statement(NamedTuple):
 
 class Cell:
     """What is known of a cell."""
-
     def __init__(self) -> None:
-        self.truth, self.freq, self.row, self.tops = 0, 0, 0, []  # type: int, int, int, List[Tuple[int, int]]
-        self.status, self.rules, self.up, self.down = "free", [], 0, 0  # type: str, List[str], int, int
-        self.low, self.high = 0, None  # type: int, Optional[int]
+        self.truth = self.freq = self.row = 0
+        self.tops: List[Tuple[int, int]] = []
+        self.status = "free"
+        self.rules: List[str] = []
+        self.up = self.down = self.low = 0
+        self.high: Optional[int] = None
         self.said: Dict[str, Statement] = {}
 
     def is_hidable(self) -> bool:
@@ -71,28 +77,35 @@ def statements_of(name: bytes, table: int, separator: bytes, wide: int) -> List[
     for k, raw in enumerate(lines_of(content(name))):
         fields = [it.strip(BLANKS) for it in raw.split(separator)]
         if raw.strip(BLANKS) and len(fields) > wide:
-            found.append(Statement(name, k + 1, table, fields[:wide], fields[wide].decode("latin-1").lower(), fields[wide + 1:]))
+            found.append(
+                Statement(name, k + 1, table, fields[:wide], fields[wide].decode("latin-1").lower(),
+                          fields[wide + 1:]))
     return found
 
 
 class Book:
     """The cells of all tables with what the job says of them."""
-
     def __init__(self, job: Job):
         self.job, self.data = job, Microdata(job)
         self.metadata, self.variables = self.data.metadata, self.data.names.spanning
         response, weight = self.data.names.response, self.data.names.weight
         if response is None or not self.variables:
-            raise Unread(job.name, "its tables name no response or no variables that the metadata have")
+            raise Unread(job.name,
+                         "its tables name no response or no variables that the metadata have")
         self.response, self.weight = response, weight
         self.decimals = response.decimals() + (weight.decimals() if weight else 0)
-        self.scale = 10 ** weight.decimals() if weight else 1
+        self.scale = 10**weight.decimals() if weight else 1
         records = list(self.data.rows())
-        self.trees = [tree_of(it, {it.field(record.raw).strip(BLANKS) for record in records} - {it.total()}) for it in self.variables]
+        self.trees = [
+            tree_of(it, {it.field(record.raw).strip(BLANKS)
+                         for record in records} - {it.total()}) for it in self.variables
+        ]
         self.below = [it.children() for it in self.trees]
         at = {it.name: k for k, it in enumerate(self.variables)}
-        self.tables = [[at[name] for name in table.variables if name in at] for _, table in job.tables()]
-        self.levels = [[job.level(t, self.variables[k].name) for k in spans] for t, spans in enumerate(self.tables, 1)]
+        self.tables = [[at[name] for name in table.variables if name in at]
+                       for _, table in job.tables()]
+        self.levels = [[job.level(t, self.variables[k].name) for k in spans]
+                       for t, spans in enumerate(self.tables, 1)]
         self.rows = [it for it in map(self.row_of, records) if it is not None]
         self.number_cells()
         self.tabulate()
@@ -102,7 +115,8 @@ class Book:
     # Cells, in the order of their numbers.
 
     def number_cells(self) -> None:
-        """Numbers the cells: tables in the order of the job, places in lexicographic order, shared cells once."""
+        """Numbers the cells: tables in the order of the job, places in lexicographic order, shared
+        cells once."""
         self.names: List[Name] = []
         self.number: Dict[Name, int] = {}
         self.within: List[List[int]] = []
@@ -120,11 +134,16 @@ class Book:
 
     def places(self, table: int) -> List[List[int]]:
         """For each variable of a table the places of the codes that the table shows."""
-        return [self.trees[k].within(level) for k, level in zip(self.tables[table], self.levels[table])]
+        return [
+            self.trees[k].within(level) for k, level in zip(self.tables[table], self.levels[table])
+        ]
 
     def above(self, table: int, places: Sequence[int]) -> Iterator[Tuple[int, ...]]:
         """The codes of a table that lie at or above some, one for each of its variables."""
-        return itertools.product(*[self.trees[k].up(place, level) for k, level, place in zip(self.tables[table], self.levels[table], places)])
+        return itertools.product(*[
+            self.trees[k].up(place, level)
+            for k, level, place in zip(self.tables[table], self.levels[table], places)
+        ])
 
     def name_at(self, spans: Sequence[int], places: Sequence[int]) -> Name:
         name = [0] * len(self.trees)
@@ -135,13 +154,17 @@ class Book:
     def row_of(self, record: Record) -> Optional[Row]:
         codes = [it.field(record.raw).strip(BLANKS) for it in self.variables]
         value = units_of(self.response.field(record.raw).strip(BLANKS), self.response.decimals())
-        weight = units_of(self.weight.field(record.raw).strip(BLANKS), self.weight.decimals()) if self.weight else 1
-        if value is None or weight is None or any(code not in tree.at for code, tree in zip(codes, self.trees)):
+        weight = units_of(self.weight.field(record.raw).strip(BLANKS),
+                          self.weight.decimals()) if self.weight else 1
+        if value is None or weight is None or any(code not in tree.at
+                                                  for code, tree in zip(codes, self.trees)):
             return None
-        return Row(record, tuple(tree.at[code] for code, tree in zip(codes, self.trees)), value, weight)
+        return Row(record, tuple(tree.at[code] for code, tree in zip(codes, self.trees)), value,
+                   weight)
 
     def tabulate(self) -> None:
-        """Adds the records up: first those of the same lowest codes, then each such group in all cells above it."""
+        """Adds the records up: first those of the same lowest codes, then each such group in all
+        cells above it."""
         keep = max([2] + [it.numbers[0] for it in self.job.rules() if it.word == "NK"])
         for t, spans in enumerate(self.tables):
             groups: Dict[Name, List[int]] = {}
@@ -149,7 +172,8 @@ class Book:
                 groups.setdefault(tuple(row.places[s] for s in spans), []).append(k)
             for leaf, rows in groups.items():
                 total = sum(self.rows[k].amount() for k in rows)
-                tops = heapq.nlargest(keep, [(self.rows[k].value, self.rows[k].weight) for k in rows])
+                tops = heapq.nlargest(keep,
+                                      [(self.rows[k].value, self.rows[k].weight) for k in rows])
                 for places in self.above(t, leaf):
                     cell = self.number[self.name_at(spans, places)]
                     if self.within[cell][0] == t:
@@ -161,7 +185,11 @@ class Book:
     def cells_of(self, row: int) -> List[int]:
         """The cells in which a row falls (rows count from 1)."""
         places = self.rows[row - 1].places
-        found = {self.number[self.name_at(spans, at)] for t, spans in enumerate(self.tables) for at in self.above(t, [places[s] for s in spans])}
+        found = {
+            self.number[self.name_at(spans, at)]
+            for t, spans in enumerate(self.tables)
+            for at in self.above(t, [places[s] for s in spans])
+        }
         return sorted(found)
 
     # Rules and a priori files.
@@ -172,19 +200,23 @@ class Book:
             if not 1 <= it.table <= len(self.tables):
                 continue
             try:
-                found += statements_of(it.file, it.table, it.separator, len(self.tables[it.table - 1]))
+                found += statements_of(it.file, it.table, it.separator,
+                                       len(self.tables[it.table - 1]))
             except Unread:
                 continue
         return found
 
     def separator(self, statement: Statement) -> bytes:
-        return next((it.separator for _, it in self.job.priors() if it.table == statement.table), b",")
+        return next((it.separator for _, it in self.job.priors() if it.table == statement.table),
+                    b",")
 
     def cell_of(self, statement: Statement) -> Optional[int]:
         spans, levels = self.tables[statement.table - 1], self.levels[statement.table - 1]
-        if not all(self.trees[k].has(code, level) for k, level, code in zip(spans, levels, statement.codes)):
+        if not all(self.trees[k].has(code, level)
+                   for k, level, code in zip(spans, levels, statement.codes)):
             return None
-        return self.number[self.name_at(spans, [self.trees[k].at[code] for k, code in zip(spans, statement.codes)])]
+        return self.number[self.name_at(
+            spans, [self.trees[k].at[code] for k, code in zip(spans, statement.codes)])]
 
     def judge(self) -> None:
         """Makes each cell primary, fixed or free, with its levels and bounds."""
@@ -201,7 +233,8 @@ class Book:
                 cell.low, cell.high = low or 0, high
             if (ups and "s" not in cell.said) or ("u" in cell.said and cell.freq):
                 cell.status = "primary"
-                wanted = [level for _, level in ups] + ([Fraction(man * cell.truth, 100)] if "u" in cell.said else [])
+                wanted = [level for _, level in ups
+                          ] + ([Fraction(man * cell.truth, 100)] if "u" in cell.said else [])
                 cell.up = max(1, max(-(-it.numerator // it.denominator) for it in wanted))
                 cell.down = min(cell.up, cell.truth)
                 self.stated_levels(cell)
@@ -226,7 +259,8 @@ class Book:
             if word == "FREQ" and cell.freq < numbers[0]:
                 found.append((word, Fraction(numbers[1] * x, 100)))
             elif word == "NK" and 100 * cell.top(numbers[0] * self.scale) > numbers[1] * x:
-                found.append((word, Fraction(100 * cell.top(numbers[0] * self.scale), numbers[1]) - x))
+                found.append(
+                    (word, Fraction(100 * cell.top(numbers[0] * self.scale), numbers[1]) - x))
             elif word in ("P", "PQ"):
                 p, q = numbers[0], numbers[1] if word == "PQ" else 100
                 if q * rest < p * first:
@@ -243,21 +277,30 @@ class Book:
         for cell, name in enumerate(self.names):
             spanned: Set[int] = set()
             for t in self.within[cell]:
-                spanned.update(k for k, level in zip(self.tables[t], self.levels[t]) if self.trees[k].depths[name[k]] < level)
+                spanned.update(k for k, level in zip(self.tables[t], self.levels[t])
+                               if self.trees[k].depths[name[k]] < level)
             for k in range(len(self.trees)):
                 if k in spanned and self.below[k][name[k]]:
-                    found.append((cell, [self.number[name[:k] + (it,) + name[k + 1:]] for it in self.below[k][name[k]]]))
+                    found.append((cell, [
+                        self.number[name[:k] + (it, ) + name[k + 1:]]
+                        for it in self.below[k][name[k]]
+                    ]))
         return found
 
     def called(self, cell: int) -> str:
         """A cell by its codes, those that aren't totals with their variables."""
-        said = ["%s %s" % (shown_name(v.name), shown(tree.codes[place])[1:-1] or "(empty)")
-                for v, tree, place in zip(self.variables, self.trees, self.names[cell]) if place]
+        said = [
+            "%s %s" % (shown_name(v.name), shown(tree.codes[place])[1:-1] or "(empty)")
+            for v, tree, place in zip(self.variables, self.trees, self.names[cell]) if place
+        ]
         return " · ".join(said) if said else "the total"
 
     def short(self, cell: int) -> str:
         """A cell by its codes alone."""
-        said = [shown(tree.codes[place])[1:-1] or "(empty)" for tree, place in zip(self.trees, self.names[cell]) if place]
+        said = [
+            shown(tree.codes[place])[1:-1] or "(empty)"
+            for tree, place in zip(self.trees, self.names[cell]) if place
+        ]
         return " · ".join(said) if said else "the total"
 
     def codes_in(self, cell: int, table: int) -> List[bytes]:
@@ -268,7 +311,8 @@ class Book:
         """An amount as in a released table; a part of a unit as a fraction behind it."""
         whole, part = divmod(units, 1)
         text = digits(int(whole), self.decimals)
-        return text if not part else "%s and %d/%d of a unit" % (text, part.numerator, part.denominator)
+        return text if not part else "%s and %d/%d of a unit" % (text, part.numerator,
+                                                                 part.denominator)
 
     def tables_text(self, cell: int) -> str:
         return "table %s" % listed([str(it + 1) for it in self.within[cell]])

@@ -1,7 +1,7 @@
 """Files as bytes, their lines and words, and how bytes are shown to a person.
 
-argus reads bytes, so places count bytes from 1. A blank is a space or a tab; a line ends with LF or with CR and LF (docs/MANUAL.md, All
-text files).
+argus reads bytes, so places count bytes from 1. A blank is a space or a tab; a line ends with LF or
+with CR and LF (docs/MANUAL.md, All text files).
 """
 
 import os
@@ -15,7 +15,6 @@ LONGEST_FILE = 268435456
 
 class Unread(Exception):
     """A file that couldn't be read: its name, and the reason in a few words."""
-
     def __init__(self, name: bytes, reason: str):
         super().__init__(name, reason)
         self.name, self.reason = name, reason
@@ -25,7 +24,8 @@ class Unread(Exception):
 
 
 def content(name: bytes) -> bytes:
-    """The bytes of a plain file; a device or a pipe isn't opened, since it could keep us waiting."""
+    """The bytes of a plain file; a device or a pipe isn't opened, since it could keep us waiting.
+    """
     try:
         found = os.stat(name)
         if not stat.S_ISREG(found.st_mode):
@@ -48,17 +48,20 @@ def lines_of(data: bytes) -> List[bytes]:
 
 
 def shown(text: bytes, most: int = 60) -> str:
-    """Bytes between double quotes, in one line: UTF-8 where they are that and can be printed, else byte by byte, cut where long."""
+    """Bytes between double quotes, in one line: UTF-8 where they are that and can be printed, else
+    byte by byte, cut where long."""
     try:
         said = text.decode("utf-8")
     except UnicodeDecodeError:
-        said = "".join(chr(it) if 32 <= it < 127 else "\\x%02x" % it for it in text[: 4 * most])
-    said = "".join(it if it.isprintable() else "\\t" if it == "\t" else "".join("\\x%02x" % b for b in it.encode()) for it in said[: 4 * most])
+        said = "".join(chr(it) if 32 <= it < 127 else "\\x%02x" % it for it in text[:4 * most])
+    said = "".join(it if it.isprintable() else "\\t" if it == "\t" else "".join(
+        "\\x%02x" % b for b in it.encode()) for it in said[:4 * most])
     return '"%s"' % said if len(said) <= most else '"%s.."' % said[:most]
 
 
 def bare(text: bytes, most: int = 80) -> str:
-    """A line or a word of a job or of metadata as it stands; between quotes where it is empty or has blanks at an end."""
+    """A line or a word of a job or of metadata as it stands; between quotes where it is empty or
+    has blanks at an end."""
     said = shown(text, most)
     return said[1:-1] if text and text == text.strip(BLANKS) else said
 
@@ -74,7 +77,8 @@ def listed(items: Iterable[str], most: int = 8) -> str:
     every = list(items)
     if len(every) > most:
         return ", ".join(every[:most]) + " and %d more" % (len(every) - most)
-    return every[0] if len(every) == 1 else ", ".join(every[:-1]) + " and " + every[-1] if every else "none"
+    return every[0] if len(
+        every) == 1 else ", ".join(every[:-1]) + " and " + every[-1] if every else "none"
 
 
 def grouped(number: int) -> str:
@@ -92,7 +96,8 @@ def is_number(text: bytes) -> bool:
 
 
 class Word(NamedTuple):
-    """A word of a line: what it says, without quotes; where it begins, from 0; how many bytes it takes there; whether it is quoted."""
+    """A word of a line: what it says, without quotes; where it begins, from 0; how many bytes it
+    takes there; whether it is quoted."""
 
     text: bytes
     at: int

@@ -1,15 +1,18 @@
-"""A job: its lines with what they say, as far as they can be made out (docs/MANUAL.md, the table of commands)."""
+"""A job: its lines with what they say, as far as they can be made out (docs/MANUAL.md, the table of
+commands)."""
 
 import re
 from typing import List, NamedTuple, Optional, Tuple
 
-from argus_office.reading.arguments import COMMANDS, Depth, MOST_LEVEL, Method, Output, Prior, Rule, Scanner, Table, Wrong
+from argus_office.reading.arguments import (COMMANDS, Depth, MOST_LEVEL, Method, Output, Prior,
+                                            Rule, Scanner, Table, Wrong)
 from argus_office.reading.files import BLANKS, Unread, content, lines_of, shown_name
 from argus_office.reading.metadata import Metadata, Variable
 
 
 class Line(NamedTuple):
-    """A line of a job: number, bytes, the word between < and > (None where there is none), and where its argument begins."""
+    """A line of a job: number, bytes, the word between < and > (None where there is none), and
+    where its argument begins."""
 
     number: int
     raw: bytes
@@ -30,8 +33,8 @@ def read_line(number: int, raw: bytes) -> Line:
 
 
 class Job:
-    """What a job's lines say, as far as they can be made out: for each command its lines with what they say."""
-
+    """What a job's lines say, as far as they can be made out: for each command its lines with what
+    they say."""
     def __init__(self, name: bytes):
         self.name = name
         self.data = content(name)
@@ -66,16 +69,21 @@ class Job:
         return [(line, it) for line, it in self.of("DEPTH") if isinstance(it, Depth)]
 
     def depth_at(self, table: int, variable: bytes) -> Optional[Tuple[Line, Depth]]:
-        """The line that says down to which level a table, from 1, shows the codes of a variable, where there is one."""
-        return next((one for one in self.depths() if (one[1].table, one[1].variable) == (table, variable)), None)
+        """The line that says down to which level a table, from 1, shows the codes of a variable,
+        where there is one."""
+        return next(
+            (one for one in self.depths() if (one[1].table, one[1].variable) == (table, variable)),
+            None)
 
     def level(self, table: int, variable: bytes) -> int:
-        """The last level that a table, from 1, shows; where it shows all, the deepest that a tree can have."""
+        """The last level that a table, from 1, shows; where it shows all, the deepest that a tree
+        can have."""
         found = self.depth_at(table, variable)
         return found[1].level if found else MOST_LEVEL
 
     def method(self) -> Method:
-        return next((it for _, it in self.of("SUPPRESS") if isinstance(it, Method)), Method("MOD", 1))
+        return next((it for _, it in self.of("SUPPRESS") if isinstance(it, Method)),
+                    Method("MOD", 1))
 
     def limit(self, command: str, default: int) -> Tuple[int, Optional[int]]:
         """The number of STEPS or NODES, and the line that gives it, if one does."""
@@ -98,7 +106,8 @@ class Job:
 
 
 def value_of(line: Line) -> object:
-    """What the argument says; where it has a fault, the name between its first quotes, or nothing."""
+    """What the argument says; where it has a fault, the name between its first quotes, or nothing.
+    """
     try:
         return COMMANDS[line.word or ""][1](Scanner(line.raw, line.at))
     except Wrong:
@@ -107,7 +116,8 @@ def value_of(line: Line) -> object:
 
 
 class Names(NamedTuple):
-    """The variables that a job uses, in the metadata: those that span its tables in the order of the metadata, response and weight."""
+    """The variables that a job uses, in the metadata: those that span its tables in the order of
+    the metadata, response and weight."""
 
     spanning: List[Variable]
     response: Optional[Variable]
@@ -124,10 +134,12 @@ def names_of(job: Job, metadata: Metadata) -> Names:
     wanted = {name for _, table in job.tables() for name in table.variables}
     tables = job.tables()
     response = metadata.find(tables[0][1].response) if tables else None
-    return Names([it for it in metadata.variables if it.name in wanted], response, metadata.weight() if job.is_weighted() else None)
+    return Names([it for it in metadata.variables if it.name in wanted], response,
+                 metadata.weight() if job.is_weighted() else None)
 
 
 def written(job: Job) -> List[Tuple[Line, bytes]]:
     """The files that the job's lines write."""
     found = [(line, it.file) for line, it in job.outputs()]
-    return found + [(line, it) for word in ("CERTIFICATE", "CONTRIBUTORS") for line, it in job.of(word) if isinstance(it, bytes)]
+    return found + [(line, it) for word in ("CERTIFICATE", "CONTRIBUTORS")
+                    for line, it in job.of(word) if isinstance(it, bytes)]

@@ -2,7 +2,8 @@
 
 from typing import Dict, List, NamedTuple, Optional, Tuple
 
-from argus_office.reading.files import BLANKS, Word, content, is_number, lines_of, shown_name, words_of
+from argus_office.reading.files import (BLANKS, Word, content, is_number, lines_of, shown_name,
+                                        words_of)
 
 
 def whole(text: bytes) -> Optional[int]:
@@ -10,7 +11,8 @@ def whole(text: bytes) -> Optional[int]:
 
 
 class Line(NamedTuple):
-    """A line of metadata: its number, its bytes, its words, and the keyword between < and > where it is a keyword line."""
+    """A line of metadata: its number, its bytes, its words, and the keyword between < and > where
+    it is a keyword line."""
 
     number: int
     raw: bytes
@@ -19,8 +21,8 @@ class Line(NamedTuple):
 
 
 class Variable:
-    """A variable: its name, its line, where its field is, its missing codes and its keywords with their words."""
-
+    """A variable: its name, its line, where its field is, its missing codes and its keywords with
+    their words."""
     def __init__(self, line: Line):
         said = [it.text for it in line.words]
         self.name, self.line = said[0], line.number
@@ -67,7 +69,6 @@ class Variable:
 
 class Metadata:
     """The lines of a file of metadata and the variables in it, as far as they can be made out."""
-
     def __init__(self, name: bytes):
         self.name = name
         self.data = content(name)
@@ -76,7 +77,8 @@ class Metadata:
         for line in self.lines:
             if line.keyword is not None:
                 if self.variables:
-                    self.variables[-1].keywords.setdefault(line.keyword, (line.number, [it.text for it in line.words]))
+                    self.variables[-1].keywords.setdefault(
+                        line.keyword, (line.number, [it.text for it in line.words]))
             elif line.words:
                 self.variables.append(Variable(line))
 

@@ -1,4 +1,5 @@
-"""Microdata: records, numbered from 1, and their fields. A line with at least one byte is a record."""
+"""Microdata: records, numbered from 1, and their fields. A line with at least one byte is a record.
+"""
 
 from typing import Iterator, NamedTuple, Optional
 
@@ -26,7 +27,8 @@ def records_of(data: bytes) -> Iterator[Record]:
 def units_of(text: bytes, decimals: int) -> Optional[int]:
     """The number of units of a value, or nothing where it is none."""
     whole, point, part = text.partition(b".")
-    if len(part) > decimals or not (whole or part) or not all(48 <= it <= 57 for it in whole + part):
+    if len(part) > decimals or not (whole or part) or not all(48 <= it <= 57
+                                                              for it in whole + part):
         return None
     return int(whole + part.ljust(decimals, b"0"))
 
@@ -38,7 +40,6 @@ def is_skipped(raw: bytes, response: Variable) -> bool:
 
 class Microdata:
     """The microdata of a job with what is needed to read a record."""
-
     def __init__(self, job: Job):
         name = job.file("OPENMICRODATA")
         if name is None:
@@ -54,8 +55,11 @@ class Microdata:
     def rows(self) -> Iterator[Record]:
         """The records that aren't skipped."""
         response = self.names.response
-        return (it for it in self.records if response is not None and not is_skipped(it.raw, response))
+        return (it for it in self.records
+                if response is not None and not is_skipped(it.raw, response))
 
     def place(self, record: Record) -> str:
-        also = "" if record.line == record.number else " (record %s: lines without a byte don't count)" % grouped(record.number)
+        also = ""
+        if record.line != record.number:
+            also = " (record %s: lines without a byte don't count)" % grouped(record.number)
         return "%s, line %d%s" % (shown_name(self.name), record.line, also)

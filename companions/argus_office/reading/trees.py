@@ -10,7 +10,6 @@ MOST_CODES, MOST_DEPTH = 5000, 9
 
 class Tree:
     """A variable's codes in preorder, each with the place of its parent; place 0 is the total."""
-
     def __init__(self, total: bytes):
         self.codes, self.parents, self.depths, self.at = [total], [-1], [0], {total: 0}
 
@@ -39,7 +38,8 @@ class Tree:
         return found
 
     def up(self, place: int, level: int = MOST_DEPTH) -> List[int]:
-        """The place itself, its parent, and so on to the total, as far as they lie no deeper than a level."""
+        """The place itself, its parent, and so on to the total, as far as they lie no deeper than a
+        level."""
         found = [place]
         while self.parents[found[-1]] >= 0:
             found.append(self.parents[found[-1]])
@@ -48,7 +48,6 @@ class Tree:
 
 class Listing:
     """A hierarchy file: for each line that has a code its number, its depth and the code."""
-
     def __init__(self, name: bytes, lead: bytes):
         self.name, self.data = name, content(name)
         self.raw = lines_of(self.data)
@@ -62,11 +61,12 @@ class Listing:
 
 
 def from_file(variable: Variable) -> Tree:
-    """The tree of a variable with a hierarchy file; lines that argus would refuse are passed over."""
+    """The tree of a variable with a hierarchy file; lines that argus would refuse are passed over.
+    """
     tree, above = Tree(variable.total()), [0]
     for _, depth, code in Listing(variable.says("HIERCODELIST") or b"", variable.lead()).rows:
         if code and code not in tree.at and depth < MOST_DEPTH:
-            above = above[: depth + 1]
+            above = above[:depth + 1]
             above.append(tree.add(code, above[-1]))
     for code in variable.missing:
         tree.add(code, 0)
@@ -108,7 +108,8 @@ def code_list(name: bytes) -> List[bytes]:
 
 
 def flat(variable: Variable, codes: Set[bytes]) -> Tree:
-    """The tree of a variable without levels: the codes of its list, then those of records in ascending order."""
+    """The tree of a variable without levels: the codes of its list, then those of records in
+    ascending order."""
     tree, name = Tree(variable.total()), variable.says("CODELIST")
     for code in code_list(name) if name is not None else []:
         tree.add(code, 0)
@@ -119,9 +120,15 @@ def flat(variable: Variable, codes: Set[bytes]) -> Tree:
 
 def kind_of(variable: Variable) -> str:
     """Where a variable's tree comes from: `file`, `levels` or `flat`."""
-    return "file" if "HIERCODELIST" in variable.keywords else "levels" if "HIERLEVELS" in variable.keywords else "flat"
+    if "HIERCODELIST" in variable.keywords:
+        return "file"
+    return "levels" if "HIERLEVELS" in variable.keywords else "flat"
 
 
 def tree_of(variable: Variable, codes: Set[bytes]) -> Tree:
     """The tree of a variable, with the codes that records have."""
-    return {"file": lambda: from_file(variable), "levels": lambda: from_levels(variable, codes), "flat": lambda: flat(variable, codes)}[kind_of(variable)]()
+    return {
+        "file": lambda: from_file(variable),
+        "levels": lambda: from_levels(variable, codes),
+        "flat": lambda: flat(variable, codes)
+    }[kind_of(variable)]()

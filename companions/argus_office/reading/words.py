@@ -5,15 +5,19 @@ from typing import Iterable, Optional, Sequence
 
 # Quotes that word processors put in place of the straight one, in UTF-8 and in Windows-1252.
 CURLED = ("\u201c", "\u201d", "\u201e", "\u201f", "\u00ab", "\u00bb", "\u2018", "\u2019")
-CURLED_BYTES = tuple(it.encode() for it in CURLED) + (b"\x93", b"\x94", b"\x84", b"\xab", b"\xbb", b"\x91", b"\x92")
+CURLED_BYTES = tuple(
+    it.encode() for it in CURLED) + (b"\x93", b"\x94", b"\x84", b"\xab", b"\xbb", b"\x91", b"\x92")
 LONGEST_COMPARED = 255
 
 
 def nearest(word: str, known: Sequence[str]) -> Optional[str]:
-    """The known word that is most like a word, if any is. Very long ones aren't compared, which would take long."""
+    """The known word that is most like a word, if any is. Very long ones aren't compared, which
+    would take long."""
     if len(word) > LONGEST_COMPARED:
         return None
-    found = difflib.get_close_matches(word.upper(), [it.upper() for it in known if len(it) <= LONGEST_COMPARED], 1, 0.7)
+    found = difflib.get_close_matches(word.upper(),
+                                      [it.upper() for it in known if len(it) <= LONGEST_COMPARED],
+                                      1, 0.7)
     return next((it for it in known if found and it.upper() == found[0]), None)
 
 
