@@ -49,10 +49,12 @@ def explained(asked: Asked) -> Said:
 
 
 def cut(lines: List[str], most: Optional[int] = MOST) -> List[str]:
+    """So many lines at most, without empty ones and line ends."""
     return [" ".join(it.split("\n")).rstrip() for it in lines if it.strip()][:most]
 
 
 def no_job(asked: Asked, answer: str, fault: Unread) -> List[str]:
+    """What to say where the job itself can't be read."""
     if answer.startswith("refused: job: Absent"):
         return ["The job is %s." % shown_name(asked.job)] + absent(asked.job, ".job")
     return [fault.text()]
@@ -76,6 +78,7 @@ def of_job(job: Job, asked: Asked, answer: str) -> Tuple[List[str], List[str]]:
 
 
 def cannot(job: Job, lines: List[str]) -> Tuple[List[str], List[str]]:
+    """What to say of `cannot protect ..`: lines, and those for a priori files."""
     question = protection.question_of(lines)
     if question is None:
         return [], []
@@ -125,34 +128,34 @@ def whole_file(job: Job, asked: Asked, said: str) -> List[str]:
     if found[3] == "TooLong":
         return [
             "The file has more bytes than argus takes: 268,435,456 for an input.",
-            "Is it the right one? Leave out records without a response, and bytes that no "
-            "field has; "
-            "don't cut it in two (the manual, Never split tables that share cells)."
+            "Is it the right one? Leave out records without a response, and bytes that no field "
+            "has; don't cut it in two (the manual, Never split tables that share cells)."
         ]
-    return {
-        "metadata":
-        lambda: jobs.absent_file(job, "OPENMETADATA"),
-        "microdata":
-        lambda: jobs.absent_file(job, "OPENMICRODATA"),
-        "codelist":
-        lambda: trees.absent_file(job.metadata(), "CODELIST", number, job.name),
-        "hierarchy":
-        lambda: trees.absent_file(job.metadata(), "HIERCODELIST", number, job.name),
-        "apriori":
-        lambda: priors.absent_file(job, number),
-        "certificate":
-        lambda: releases.absent_output(job, "CERTIFICATE", 0),
-        "contributors":
-        lambda: releases.absent_output(job, "CONTRIBUTORS", 0),
-        "table":
-        lambda: releases.absent_output(job, "table", number),
-        "job":
-        lambda:
-        ["The job is %s, and it is there now; it wasn't when argus looked." % shown_name(job.name)]
-    }.get(found[1], lambda: [])()
+    return absent_file(job, found[1], number)
+
+
+def absent_file(job: Job, what: str, number: int) -> List[str]:
+    """A file that isn't there, by what argus calls it."""
+    if what in ("metadata", "microdata"):
+        return jobs.absent_file(job, "OPEN" + what.upper())
+    if what in ("codelist", "hierarchy"):
+        word = "CODELIST" if what == "codelist" else "HIERCODELIST"
+        return trees.absent_file(job.metadata(), word, number, job.name)
+    if what == "apriori":
+        return priors.absent_file(job, number)
+    if what in ("certificate", "contributors"):
+        return releases.absent_output(job, what.upper(), 0)
+    if what == "table":
+        return releases.absent_output(job, "table", number)
+    if what != "job":
+        return []
+    return [
+        "The job is %s, and it is there now; it wasn't when argus looked." % shown_name(job.name)
+    ]
 
 
 def other(job: Job, answer: str) -> List[str]:
+    """What to say of faults that lie outside the files."""
     if answer.startswith(("read fault: ", "write fault: ")):
         return [
             "The system's reason is on argus's own line on standard error. After a write fault "

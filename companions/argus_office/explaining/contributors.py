@@ -7,7 +7,7 @@ states that rest as the lower level, for all such cells at once.
 """
 
 from fractions import Fraction
-from typing import Dict, List, NamedTuple, Set, Tuple
+from typing import Dict, List, NamedTuple, Optional, Set, Tuple
 
 from argus_office.explaining.protection import (Question, Sum, by_lines, holders, level_of,
                                                 levels_text, reach_text, remedy, row_line)
@@ -43,23 +43,22 @@ class Remedy:
                 break
             for cell, room in self.rooms.against(known).items():
                 self.lower(cell, room.down, room.up)
-        self.lower(
-            question.cell,
-            *((int(reach), None) if question.side == "below" else
-              (book.cells[question.cell].down, int(reach))))
+        if question.side == "below":
+            self.lower(question.cell, int(reach), None)
+        else:
+            self.lower(question.cell, book.cells[question.cell].down, int(reach))
         self.closed = sorted(cell for cell, (_, up) in self.levels.items() if up < 1)
         self.stated = {cell: Stated(*it) for cell, it in sorted(self.levels.items()) if it[1] >= 1}
 
-    def lower(self, cell: int, down: int, up: object) -> None:
+    def lower(self, cell: int, down: int, up: Optional[int]) -> None:
         """Takes what a cell can go at most, where its levels are beyond that."""
         it = self.book.cells[cell]
         if it.status != "primary":
             return
         now = self.levels.get(cell, [it.down, it.up])
-        new = [min(now[0], down),
-               now[1] if up is None else min(now[1], up)]  # type: ignore[type-var]
+        new = [min(now[0], down), now[1] if up is None else min(now[1], up)]
         if new != [it.down, it.up]:
-            self.levels[cell] = new  # type: ignore[assignment]
+            self.levels[cell] = new
 
     def by_table(self) -> List[Tuple[int, bytes, List[bytes]]]:
         """For each table that is needed, its separator and its lines. A cell of several tables goes
@@ -114,6 +113,7 @@ def firm_text(book: Book, row: int) -> str:
 
 
 def knows_text(book: Book, known: Set[int], cell: int) -> str:
+    """In how many cells a firm is alone, and in which."""
     inner = sorted(known)
     return "Its firm is alone in %d cell%s, and so knows %s: %s." % (
         len(inner), "" if len(inner) == 1 else "s", "it" if len(inner) == 1 else "them",
@@ -190,6 +190,7 @@ def closing(book: Book, given: Remedy, it: Sum) -> List[str]:
 
 
 def table_lines(book: Book, given: Remedy) -> List[str]:
+    """The lines for a priori files, with where they go."""
     found = []
     for table, separator, rows in given.by_table():
         found.append(file_text(book, table, separator))

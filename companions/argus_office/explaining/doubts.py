@@ -88,7 +88,7 @@ def letters(data: Microdata) -> List[str]:
             continue
         if more and len(it.raw) == usual + more:
             longer.append(it)
-    if not longer:
+    if not longer or usual is None:
         return []
     return [
         "%s, line %d and %d more: letters of two bytes make these records longer than the "
@@ -108,6 +108,7 @@ def counted(data: Microdata, variable: Variable) -> Dict[bytes, Tuple[int, Recor
 
 
 def known(variable: Variable) -> List[bytes]:
+    """The codes of a variable's list; none where it can't be read."""
     name = variable.says("CODELIST")
     try:
         return code_list(name) if name is not None else []

@@ -120,6 +120,7 @@ def bad_line(job: Job, line: Line) -> List[str]:
 
 
 def unknown_command(job: Job, line: Line) -> List[str]:
+    """A command that argus lacks, and one that is like it."""
     if line.word is None or line.word in COMMANDS:
         return []
     start = line.raw.find(b"<")
@@ -141,6 +142,7 @@ def unknown_command(job: Job, line: Line) -> List[str]:
 
 
 def bad_value(job: Job, line: Line) -> List[str]:
+    """What is wrong with the argument of a command, and where."""
     if line.word == "CONTRIBUTORS" and job.method().word == "RND" and value_of(line) is not None:
         return [
             head(job,
@@ -158,6 +160,7 @@ def bad_value(job: Job, line: Line) -> List[str]:
 
 
 def twice(job: Job, line: Line) -> List[str]:
+    """The earlier line with the same command."""
     mine = next((it for at, it in job.said if at is line), None)
     for other, value in job.said:
         if other.number >= line.number:
@@ -183,6 +186,7 @@ def subject(value: object) -> Tuple[object, ...]:
 
 
 def too_many(job: Job, line: Line) -> List[str]:
+    """More tables or variables than a job may have."""
     tables = [(at, it) for at, it in job.tables() if at.number <= line.number]
     if len(tables) > MOST_TABLES:
         return [head(job, line), "This is the ninth table; a job has 8 at most."]
@@ -201,6 +205,7 @@ def too_many(job: Job, line: Line) -> List[str]:
 
 
 def other_response(job: Job, line: Line) -> List[str]:
+    """A table of another response than the first."""
     tables = job.tables()
     mine = next((it for at, it in tables if at.number == line.number), None)
     if mine is None:
@@ -216,6 +221,7 @@ def other_response(job: Job, line: Line) -> List[str]:
 
 
 def no_such_table(job: Job, line: Line) -> List[str]:
+    """A line for a table that the job doesn't have."""
     mine = next((it for at, it in job.said if at.number == line.number), None)
     if not isinstance(mine, (Prior, Output, Depth)):
         return []
@@ -279,6 +285,7 @@ def read_by(job: Job) -> List[Tuple[str, bytes]]:
 
 
 def same_name(job: Job, line: Line) -> List[str]:
+    """An output with the name of another file of the job."""
     name = next((it for at, it in written(job) if at.number == line.number), None)
     if name is None:
         return []
@@ -300,10 +307,12 @@ def same_name(job: Job, line: Line) -> List[str]:
 
 
 def variables_at(job: Job, line: Line) -> Optional[Table]:
+    """The table that a line specifies."""
     return next((it for at, it in job.tables() if at.number == line.number), None)
 
 
 def at_name(job: Job, line: Line, name: bytes) -> str:
+    """The line at fault, with a name in quotes."""
     at = line.raw.rfind(b'"' + name + b'"') if b"|" in line.raw and line.raw.rfind(
         b'"' + name + b'"') > line.raw.find(b"|") else line.raw.find(b'"' + name + b'"')
     return head(job, line, at, at + len(name) + 2) if at >= 0 else head(job, line)
@@ -338,6 +347,7 @@ def no_such_variable(job: Job, line: Line) -> List[str]:
 
 
 def not_spanning(job: Job, line: Line) -> List[str]:
+    """A number that is to span a table."""
     table, metadata = variables_at(job, line), job.metadata()
     variable = next((found for found in map(metadata.find, table.variables)
                      if found and found.is_number()), None) if table else None
@@ -353,6 +363,7 @@ def not_spanning(job: Job, line: Line) -> List[str]:
 
 
 def not_numeric(job: Job, line: Line) -> List[str]:
+    """A response that is no number."""
     table, metadata = variables_at(job, line), job.metadata()
     variable = metadata.find(table.response) if table else None
     if variable is None or variable.is_number():
@@ -366,6 +377,7 @@ def not_numeric(job: Job, line: Line) -> List[str]:
 
 
 def no_weight(job: Job, line: Line) -> List[str]:
+    """A weight that is wanted, and that the metadata lack."""
     metadata = job.metadata()
     if metadata.weight() is not None:
         return []

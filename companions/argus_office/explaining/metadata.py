@@ -71,6 +71,7 @@ def head(metadata: Metadata, line: Line, at: int = -1, end: int = -1) -> str:
 
 
 def at_word(metadata: Metadata, line: Line, word: Word) -> str:
+    """The line at fault, with one of its words."""
     return head(metadata, line, word.at, word.at + max(word.size, 1))
 
 
@@ -104,6 +105,7 @@ def unknown_keyword(metadata: Metadata, line: Line) -> List[str]:
 
 
 def bad_name(metadata: Metadata, line: Line) -> List[str]:
+    """A name that can't be one, or a keyword without a variable."""
     if line.keyword is not None:
         return [
             head(metadata,
@@ -153,6 +155,7 @@ def bad_place(metadata: Metadata, line: Line) -> List[str]:
 
 
 def comma_in(line: Line) -> str:
+    """A hint where words are separated by commas."""
     found = next((it for it in (b",", b";") if it in line.raw), None)
     return "Words are separated by blanks here, not by %s." % shown(found) if found else ""
 
@@ -230,6 +233,7 @@ def value_of(metadata: Metadata, line: Line, keyword: str, word: Word, wanted: s
 
 
 def levels(metadata: Metadata, line: Line, wanted: str) -> List[str]:
+    """What is wrong with the numbers of HIERLEVELS."""
     numbers = []
     for word in line.words:
         value = whole(word.text)
@@ -287,6 +291,7 @@ def twice(metadata: Metadata, line: Line) -> List[str]:
 
 
 def too_many(metadata: Metadata, line: Line) -> List[str]:
+    """More variables than metadata may have."""
     return [
         head(metadata, line),
         "This is variable %d; metadata have 64 at most." % (len(metadata.before(line.number)) + 1),
@@ -301,12 +306,12 @@ def clash(metadata: Metadata, line: Line) -> List[str]:
     if of is None:
         return []
 
+    has = of.keywords
+
     def at(*words: str) -> str:
-        return listed(
-            ["<%s> (line %d)" % (it, of.keywords[it][0]) for it in words if it in of.keywords])
+        return listed(["<%s> (line %d)" % (it, has[it][0]) for it in words if it in has])
 
     first = "%s: %s has %s." % (metadata.place(line.number), shown_name(of.name), "%s")
-    has = of.keywords
     if "HIERLEVELS" in has and "HIERCODELIST" in has:
         return [
             first % at("HIERLEVELS", "HIERCODELIST"),

@@ -59,6 +59,8 @@ class Pair(NamedTuple):
 
 
 def shared_bytes(one: Variable, other: Variable) -> Tuple[int, int]:
+    """The first and the last byte of a record that two fields share; 0 and 0 where they share
+    none."""
     first, last = max(one.first or 1, other.first or 1), min(one.last(), other.last())
     return (first, last) if first <= last else (0, 0)
 

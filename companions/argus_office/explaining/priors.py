@@ -34,6 +34,7 @@ class Field(NamedTuple):
 
 
 def fields_of(raw: bytes, separator: bytes) -> List[Field]:
+    """The fields of a line."""
     found, at = [], 0
     for piece in raw.split(separator):
         found.append(Field(piece.strip(BLANKS), at + len(piece) - len(piece.lstrip(BLANKS))))
@@ -54,27 +55,33 @@ class Look:
         self.wide = len(self.variables)
 
     def place(self) -> str:
+        """The line in words."""
         return "%s, line %d" % (shown_name(self.prior.file), self.line)
 
     def head(self, field: Optional[Field] = None) -> str:
+        """The line at fault, or one of its fields."""
         if field is None or not field.text:
             return "%s: %s" % (self.place(), bare(self.raw or b""))
         return "%s, %s: %s" % (self.place(), bytes_range(
             field.at + 1, field.at + len(field.text)), bare(field.text))
 
     def keyword(self) -> str:
+        """The keyword behind the codes, in small letters."""
         return self.fields[self.wide].text.decode("latin-1").lower() if len(
             self.fields) > self.wide else ""
 
     def numbers(self) -> List[Field]:
+        """The fields behind the keyword."""
         return self.fields[self.wide + 1:]
 
 
 def prior_at(job: Job, table: int) -> Optional[Tuple[Line, Prior]]:
+    """The a priori file of a table, with its line of the job."""
     return next(((line, it) for line, it in job.priors() if it.table == table), None)
 
 
 def absent_file(job: Job, table: int) -> List[str]:
+    """What to say of an a priori file that is absent."""
     found = prior_at(job, table)
     if found is None:
         return ["%s names no a priori file of table %d now." % (shown_name(job.name), table)]
@@ -236,8 +243,8 @@ def bad_number(look: Look) -> List[str]:
         field = look.numbers()[0]
         if not is_number(field.text):
             return [look.head(field), "A price is a whole number: digits and nothing else."]
-        value = int(field.text) if len(field.text) < 60 else 10**60
-        return [] if 1 <= value <= 2**40 else [
+        price = int(field.text) if len(field.text) < 60 else 10**60
+        return [] if 1 <= price <= 2**40 else [
             look.head(field),
             "A price goes from 1 to 2^40 (1,099,511,627,776). To show the cell in any case, "
             "write p in its place."
@@ -268,6 +275,7 @@ def bad_number(look: Look) -> List[str]:
 
 
 def decimals_of(look: Look) -> int:
+    """How many decimals a level or a bound may have."""
     metadata = look.job.metadata()
     tables = look.job.tables()
     response = metadata.find(tables[0][1].response) if tables else None
@@ -286,6 +294,7 @@ def statement_at(look: Look, book: Book) -> Optional[Tuple[Statement, int]]:
 
 
 def empty_unsafe(look: Look) -> List[str]:
+    """A cell without records that is to be protected."""
     book = Book(look.job)
     found = statement_at(look, book)
     if found is None or book.cells[found[1]].freq:
@@ -346,6 +355,7 @@ def twice(look: Look) -> List[str]:
 
 
 def protected_primary(look: Look) -> List[str]:
+    """A sensitive cell that is to be shown."""
     book = Book(look.job)
     found = statement_at(look, book)
     if found is None or book.cells[found[1]].status != "primary":

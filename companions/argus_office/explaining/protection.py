@@ -26,9 +26,11 @@ class Question(NamedTuple):
     by_relation: List[Tuple[int, int]]
 
     def sign(self) -> int:
+        """1 for the side above, -1 for that below."""
         return 1 if self.side == "above" else -1
 
     def way(self) -> str:
+        """The side as the way that leads there."""
         return "upwards" if self.side == "above" else "downwards"
 
 
@@ -37,7 +39,8 @@ def question_of(lines: List[str]) -> Optional[Question]:
     found = re.match(r"cannot protect cell (\d+) (above|below)(?: from row (\d+))?\s*$", lines[0])
     if not found:
         return None
-    said = next((it.split() for it in lines[1:] if it.split()[:1] == ["multipliers"]), [])
+    given = (it.split() for it in lines[1:])
+    said: List[str] = next((it for it in given if it[:1] == ["multipliers"]), [])
     pairs = [it.split(":") for it in said[2:]]
     if len(said) < 2 or not said[1].isdigit() or any(
             len(it) != 2 or not re.fullmatch(r"\d+", it[0]) or not re.fullmatch(r"-?\d+", it[1])
@@ -65,6 +68,7 @@ class Sum:
         self.terms = {cell: by for cell, by in found.items() if by}
 
     def is_held(self, cell: int) -> bool:
+        """Whether a cell can't move: it is always shown, or the firm knows it."""
         return cell in self.known or not self.book.cells[cell].is_hidable()
 
     def reach(self) -> Optional[Fraction]:
@@ -77,9 +81,10 @@ class Sum:
             it = self.book.cells[cell]
             if self.is_held(cell):
                 continue
-            if by > 0 and it.high is None:
+            end = it.high if by > 0 else it.low
+            if end is None:
                 return None
-            total += by * ((it.high if by > 0 else it.low) - it.truth)  # type: ignore[operator]
+            total += by * (end - it.truth)
         return Fraction(total, self.question.den)
 
     def text(self, most: int = 7) -> str:
@@ -101,6 +106,7 @@ class Sum:
                       and not self.book.cells[it].is_hidable() and self.book.cells[it].freq)
 
     def empty(self) -> List[int]:
+        """Cells of the sum that have no records."""
         return sorted(it for it in self.terms if not self.book.cells[it].freq)
 
     def ends(self) -> List[Tuple[int, str]]:
@@ -122,6 +128,7 @@ class Sum:
 
 
 def levels_text(book: Book, cell: int) -> str:
+    """The cell, its tables, its value, and why it is sensitive."""
     it = book.cells[cell]
     why = "primary by %s" % " and ".join(
         it.rules + (["its u line"] if "u" in it.said else [])
@@ -133,6 +140,7 @@ def levels_text(book: Book, cell: int) -> str:
 
 
 def level_of(book: Book, question: Question) -> int:
+    """The level of the asked cell to the question's side."""
     it = book.cells[question.cell]
     return it.up if question.side == "above" else it.down
 

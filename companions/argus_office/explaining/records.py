@@ -5,7 +5,7 @@ the records that weren't skipped.
 """
 
 import re
-from typing import List, Optional
+from typing import List, Optional, Set
 
 from argus_office.explaining.texts import foreign
 from argus_office.reading.files import (BLANKS, MARK, Unread, bytes_range, grouped, listed, shown,
@@ -27,6 +27,7 @@ class Look:
         self.data, self.record = data, record
 
     def head(self, variable: Variable) -> str:
+        """The record, the variable, its bytes, and what stands there."""
         field = variable.field(self.record.raw)
         return "%s: %s, %s, is %s." % (self.data.place(self.record), shown_name(
             variable.name), bytes_range(variable.first or 1, variable.last()), shown(field))
@@ -78,6 +79,7 @@ def explain(job: Job, number: int, kind: str) -> List[str]:
 
 
 def too_long(look: Look, kind: str) -> List[str]:
+    """A record of too many bytes."""
     raw = look.record.raw
     if len(raw) <= MOST_BYTES:
         return []
@@ -96,6 +98,7 @@ def too_long(look: Look, kind: str) -> List[str]:
 
 
 def too_many(look: Look, kind: str) -> List[str]:
+    """More records than a job takes."""
     return [
         "%s: this is record 1,000,001; a job takes 1,000,000." % look.data.place(look.record),
         "Take out the records without a response, which are skipped anyway. Don't cut "
@@ -104,6 +107,7 @@ def too_many(look: Look, kind: str) -> List[str]:
 
 
 def short(look: Look, kind: str) -> List[str]:
+    """A record that ends before a field of the job does."""
     raw, names = look.record.raw, look.data.names
     cut = [it for it in names.used() if it.is_clear() and it.last() > len(raw)]
     if not cut:
@@ -158,10 +162,12 @@ def fault_of_number(variable: Variable, text: bytes, most: int) -> Optional[str]
 
 
 def ten_to(number: int) -> str:
+    """A power of ten as a power."""
     return "10^%d" % (len(str(number)) - 1)
 
 
 def quoted_number(text: bytes) -> Optional[str]:
+    """Quotes, signs and words in place of a number."""
     if text[:1] in b"\"'" or text[-1:] in b"\"'":
         return ("Quotes were left in. Write the file without them: in R quote = FALSE, and the "
                 "field needs two bytes less.")
@@ -200,6 +206,7 @@ def marked_number(variable: Variable, text: bytes) -> Optional[str]:
 
 
 def odd_number(variable: Variable, text: bytes) -> str:
+    """A byte that no number has."""
     if text.count(b".") > 1:
         return "A number has one point at most."
     if not text or text == b".":
@@ -282,6 +289,7 @@ def out_of_place(look: Look, variable: Variable, first: int) -> List[str]:
 
 
 def is_good(variable: Variable, field: bytes) -> bool:
+    """Whether bytes would do as the field of a number; as a code any would."""
     text = field.strip(BLANKS)
     return not variable.is_number() or not text or text in variable.missing or units_of(
         text, variable.decimals()) is not None
@@ -318,6 +326,7 @@ def bad_number(look: Look, kind: str) -> List[str]:
 
 
 def negative(look: Look, kind: str) -> List[str]:
+    """A response below 0."""
     variable = look.data.names.response
     if variable is None or not variable.field(look.record.raw).strip(BLANKS).startswith(b"-"):
         return []
@@ -338,6 +347,7 @@ def negative(look: Look, kind: str) -> List[str]:
 
 
 def light_weight(look: Look, kind: str) -> List[str]:
+    """A weight below 1."""
     variable = look.data.names.weight
     if variable is None:
         return []
@@ -376,6 +386,7 @@ def bad_code(look: Look, kind: str) -> List[str]:
 
 
 def unknown(look: Look, variable: Variable, code: bytes, tree: Tree) -> List[str]:
+    """A code that the hierarchy lacks."""
     name = variable.says("HIERCODELIST") or b""
     lines = [look.head(variable)]
     why = like_code(code, tree.codes[1:])
@@ -415,6 +426,7 @@ def like_code(code: bytes, known: List[bytes]) -> Optional[str]:
 
 
 def not_leaf(look: Look, variable: Variable, code: bytes, tree: Tree) -> List[str]:
+    """A code that has others below it, or that of the total."""
     if code == variable.total():
         return [
             look.head(variable),
@@ -434,6 +446,7 @@ def not_leaf(look: Look, variable: Variable, code: bytes, tree: Tree) -> List[st
 
 
 def bad_levels(look: Look, variable: Variable, code: bytes) -> List[str]:
+    """A code by digits that can't be one."""
     widths = variable.levels()
     if any(it in BLANKS for it in code):
         return [
@@ -478,7 +491,7 @@ def longer_codes(look: Look) -> List[str]:
 def too_many_codes(look: Look, kind: str) -> List[str]:
     """The first variable whose codes pass 5,000 with this record."""
     variables = look.data.names.spanning
-    sets: List[set] = [set(code_set(it)) for it in variables]
+    sets: List[Set[bytes]] = [set(code_set(it)) for it in variables]
     response = look.data.names.response
     for record in look.data.records[:look.record.number]:
         if response is not None and is_skipped(record.raw, response):

@@ -232,6 +232,7 @@ def status_fault(book: Book, kind: str, cell: int, value: str) -> List[str]:
 
 
 def relation(job: Job, number: int) -> List[str]:
+    """What to say of `not accepted: Relation R`."""
     book = Book(job)
     relations = book.relations()
     if number >= len(relations):
@@ -262,6 +263,13 @@ def field_text(code: bytes) -> bytes:
     return b'"%s"' % code.replace(b'"', b'""') if re.search(rb'[,"\r\n]', code) else code
 
 
+def line_there(lines: List[bytes], line: int) -> str:
+    """A line of a table as it is shown."""
+    if line <= len(lines) and (lines[line - 1] or line < len(lines)):
+        return shown(lines[line - 1])
+    return "the end of the file"
+
+
 def release(job: Job, table: int, line: int) -> List[str]:
     """What to say of `not accepted: Release T L`: the line as it is, and as the inputs have it."""
     name = next((it.file for _, it in job.outputs() if it.table == table), None)
@@ -269,12 +277,10 @@ def release(job: Job, table: int, line: int) -> List[str]:
     if name is None or not 1 <= table <= len(book.tables):
         return []
     try:
-        data = content(name)
+        lines = content(name).split(b"\n")
     except Unread as fault:
         return [fault.text()]
-    lines, there = data.split(b"\n"), "the end of the file"
-    if line <= len(lines) and (lines[line - 1] or line < len(lines)):
-        there = shown(lines[line - 1])
+    there = line_there(lines, line)
     wanted = expected_line(book, table - 1, line)
     first = "%s, line %d: %s" % (shown_name(name), line, there)
     again = ("A spreadsheet that saves the file changes line ends, quotes or codes. Take the table "

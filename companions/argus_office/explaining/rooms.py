@@ -30,18 +30,22 @@ class Ends:
         self.high: Dict[int, Optional[int]] = {}
 
     def least(self, cell: int) -> int:
+        """The least value of a cell."""
         return self.low[cell] if cell in self.low else self.rooms.low[cell]
 
     def greatest(self, cell: int) -> Optional[int]:
+        """The greatest value of a cell; None where it is open."""
         return self.high[cell] if cell in self.high else self.rooms.high[cell]
 
     def raise_low(self, cell: int, to: int) -> bool:
+        """Raises the least value of a cell, and says whether that moved it."""
         if to <= self.least(cell):
             return False
         self.low[cell] = to
         return True
 
     def lower_high(self, cell: int, to: int) -> bool:
+        """Lowers the greatest value of a cell, and says whether that moved it."""
         now = self.greatest(cell)
         if now is not None and to >= now:
             return False
@@ -117,6 +121,7 @@ class Rooms:
         }
 
     def room(self, ends: Ends, cell: int) -> Room:
+        """How far a cell can go between its ends."""
         truth, most = self.book.cells[cell].truth, ends.greatest(cell)
         return Room(truth - ends.least(cell), None if most is None else most - truth)
 

@@ -9,6 +9,7 @@ from argus_office.reading.trees import Listing, MOST_CODES, MOST_DEPTH
 
 
 def variable_at(metadata: Metadata, number: int) -> Optional[Variable]:
+    """The variable of a number, from 1, where there is one."""
     return metadata.variables[number - 1] if 0 < number <= len(metadata.variables) else None
 
 
@@ -59,6 +60,7 @@ def explain(metadata: Metadata, word: str, number: int, line: int, kind: str) ->
 
 
 def listed_codes(variable: Variable, name: bytes, line: int) -> List[str]:
+    """What to say of a code list with too many codes."""
     return [
         "%s, line %d: the code list of %s has more than 5,000 codes up to here." %
         (shown_name(name), line, shown_name(variable.name)),
@@ -68,16 +70,19 @@ def listed_codes(variable: Variable, name: bytes, line: int) -> List[str]:
 
 
 def head(variable: Variable, listing: Listing, line: int) -> str:
+    """The line at fault."""
     raw = listing.raw[line - 1] if 0 < line <= len(listing.raw) else b""
     return "%s, line %d (the hierarchy of %s): %s" % (shown_name(
         listing.name), line, shown_name(variable.name), shown(raw))
 
 
 def row_at(listing: Listing, line: int) -> Optional[int]:
+    """Which row of the file a line is."""
     return next((k for k, it in enumerate(listing.rows) if it[0] == line), None)
 
 
 def no_code(variable: Variable, listing: Listing, line: int) -> List[str]:
+    """A lead without a code."""
     k = row_at(listing, line)
     if k is None or listing.rows[k][2]:
         return []
@@ -89,6 +94,7 @@ def no_code(variable: Variable, listing: Listing, line: int) -> List[str]:
 
 
 def jump(variable: Variable, listing: Listing, line: int) -> List[str]:
+    """A line that is more than one level deeper than the line above."""
     k = row_at(listing, line)
     if k is None:
         return []
@@ -112,6 +118,7 @@ def jump(variable: Variable, listing: Listing, line: int) -> List[str]:
 
 
 def too_deep(variable: Variable, listing: Listing, line: int) -> List[str]:
+    """A line deeper than nine levels."""
     k = row_at(listing, line)
     if k is None or listing.rows[k][1] < MOST_DEPTH:
         return []
@@ -123,6 +130,7 @@ def too_deep(variable: Variable, listing: Listing, line: int) -> List[str]:
 
 
 def is_total(variable: Variable, listing: Listing, line: int) -> List[str]:
+    """A line with the code of the total."""
     k = row_at(listing, line)
     if k is None or listing.rows[k][2] != variable.total():
         return []
@@ -136,6 +144,7 @@ def is_total(variable: Variable, listing: Listing, line: int) -> List[str]:
 
 
 def twice(variable: Variable, listing: Listing, line: int) -> List[str]:
+    """A code that a line above has."""
     k = row_at(listing, line)
     if k is None:
         return []
@@ -149,6 +158,7 @@ def twice(variable: Variable, listing: Listing, line: int) -> List[str]:
 
 
 def too_many(variable: Variable, listing: Listing, line: int) -> List[str]:
+    """The line with which the codes become too many."""
     k = row_at(listing, line)
     if k is None or len({it[2] for it in listing.rows[:k + 1]}) <= MOST_CODES:
         return []

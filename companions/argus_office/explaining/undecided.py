@@ -13,6 +13,7 @@ TIMES = ("Times (the manual, Sizes and times): two variables with levels, 2,397 
 
 
 def table_text(book: Book, table: int) -> str:
+    """How many cells a table has, and how many of them are sensitive."""
     cells = [cell for cell in range(len(book.cells)) if table in book.within[cell]]
     primary = sum(1 for cell in cells if book.cells[cell].status == "primary")
     names = " by ".join(shown_name(book.variables[k].name) for k in book.tables[table])
@@ -132,6 +133,7 @@ def work(book: Book, way: str, lines: List[str]) -> List[str]:
 
 
 def nodes(job: Job, answer: str) -> List[str]:
+    """What to say of a search for a rounding that took all its choices."""
     if not answer.startswith("undecided: nodes"):
         return []
     limit, line = job.limit("NODES", 1000000)
@@ -147,6 +149,7 @@ def nodes(job: Job, answer: str) -> List[str]:
 
 
 def no_rounding(job: Job) -> List[str]:
+    """What to say where no rounding exists."""
     line = next((it for it, _ in job.of("SUPPRESS")), None)
     where_ = "%s: RND(%d). " % (job.place(line.number), job.method().number) if line else ""
     wide = [str(k + 1) for k, (_, it) in enumerate(job.tables()) if len(it.variables) > 2]

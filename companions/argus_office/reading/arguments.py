@@ -50,16 +50,20 @@ class Scanner:
         self.skip()
 
     def skip(self) -> None:
+        """Goes over blanks."""
         while self.at < len(self.line) and self.line[self.at] in BLANKS:
             self.at += 1
 
     def is_done(self) -> bool:
+        """Whether the line is at its end."""
         return self.at >= len(self.line)
 
     def peek(self) -> bytes:
+        """The next byte; none at the end."""
         return self.line[self.at:self.at + 1]
 
     def takes(self, byte: bytes) -> bool:
+        """Goes over a byte where it is the next one, and says whether it is."""
         if self.peek() != byte:
             return False
         self.at += 1
@@ -67,6 +71,7 @@ class Scanner:
         return True
 
     def run(self, is_in: Callable[[int], bool]) -> bytes:
+        """Goes over the bytes that are in a set, and gives them."""
         start = self.at
         while self.at < len(self.line) and is_in(self.line[self.at]):
             self.at += 1
@@ -75,6 +80,7 @@ class Scanner:
         return found
 
     def rest(self) -> bytes:
+        """What is left of the line."""
         return self.line[self.at:].rstrip(BLANKS)
 
     def wrong(self, why: str, at: Optional[int] = None, end: Optional[int] = None) -> Wrong:
@@ -89,14 +95,17 @@ class Scanner:
         return Wrong(start, max(end, start), why)
 
     def needs(self, byte: bytes, why: str) -> None:
+        """Goes over a byte. Raises Wrong where another one is the next."""
         if not self.takes(byte):
             raise self.wrong(why)
 
     def ends(self, why: str) -> None:
+        """Raises Wrong where something is left."""
         if not self.is_done():
             raise self.wrong(why, self.at, len(self.line.rstrip(BLANKS)))
 
     def number(self, what: str, low: int, high: int) -> int:
+        """A whole number in its range. Raises Wrong where there is none."""
         start = self.at
         digits = self.run(lambda it: 48 <= it <= 57)
         if not digits:
@@ -124,6 +133,7 @@ class Scanner:
         return self.line[start + 1:end]
 
     def unquoted(self, what: str, example: str) -> Wrong:
+        """What is wrong where a double quote is wanted."""
         rest = self.rest()
         if not rest:
             return Wrong(self.at, self.at, "Here %s is missing: %s." % (what, example))
@@ -158,12 +168,14 @@ class Scanner:
 
 
 def file_alone(scan: Scanner, what: str, example: str) -> bytes:
+    """The argument of a command that has the name of a file alone."""
     name = scan.file(what, example)
     scan.ends("Nothing may follow the name.")
     return name
 
 
 def nothing(scan: Scanner) -> None:
+    """The argument of a command that has none."""
     scan.ends("This command has no argument.")
 
 
@@ -224,6 +236,7 @@ class Rule(NamedTuple):
 
 
 def rule_word(scan: Scanner) -> Tuple[str, int]:
+    """The name of a rule, and where it begins."""
     start = scan.at
     word = scan.run(lambda it: chr(it).isalpha() and it < 128).decode().upper()
     if word in RULES:
@@ -310,6 +323,7 @@ PRIOR_FORM = '<APRIORI> "cells.hst",1,","'
 
 
 def prior(scan: Scanner) -> Prior:
+    """The argument of APRIORI."""
     name = scan.file("the name of the a priori file", PRIOR_FORM)
     scan.needs(b",",
                "A comma and the number of the table are wanted after the name: %s." % PRIOR_FORM)
@@ -332,6 +346,7 @@ def prior(scan: Scanner) -> Prior:
 
 
 def table_number(scan: Scanner, form: str) -> int:
+    """The number of a table."""
     start = scan.at
     digits = scan.run(lambda it: 48 <= it <= 57)
     if not digits:
@@ -342,6 +357,7 @@ def table_number(scan: Scanner, form: str) -> int:
 
 
 def cost(scan: Scanner) -> str:
+    """The argument of COST."""
     start = scan.at
     word = scan.run(lambda it: it not in BLANKS).decode("latin-1").upper()
     if word not in ("VALUE", "FREQ", "UNIT"):
@@ -354,6 +370,7 @@ def cost(scan: Scanner) -> str:
 
 
 def count(scan: Scanner) -> int:
+    """The argument of STEPS and NODES."""
     number = scan.number("This number", 1, 10**12)
     scan.ends("Nothing may follow the number.")
     return number
@@ -367,6 +384,7 @@ class Method(NamedTuple):
 
 
 def method(scan: Scanner) -> Method:
+    """The argument of SUPPRESS."""
     start = scan.at
     word = scan.run(lambda it: chr(it).isalpha() and it < 128).decode().upper()
     if word not in METHODS:
@@ -393,6 +411,7 @@ OUTPUT_FORM = '<WRITETABLE> (1,"table.csv")'
 
 
 def output(scan: Scanner) -> Output:
+    """The argument of WRITETABLE."""
     scan.needs(b"(", "An opening parenthesis is wanted here: %s." % OUTPUT_FORM)
     number = table_number(scan, OUTPUT_FORM)
     scan.needs(
@@ -423,6 +442,7 @@ MOST_LEVEL = 9
 
 
 def depth(scan: Scanner) -> Depth:
+    """The argument of DEPTH."""
     scan.needs(b"(", "An opening parenthesis is wanted here: %s." % DEPTH_FORM)
     number = table_number(scan, DEPTH_FORM)
     scan.needs(

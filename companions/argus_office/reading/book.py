@@ -30,6 +30,7 @@ class Row(NamedTuple):
     weight: int
 
     def amount(self) -> int:
+        """What the record adds to its cells."""
         return self.value * self.weight
 
 
@@ -45,6 +46,7 @@ class Statement(NamedTuple):
     fields: List[bytes]
 
     def place(self) -> str:
+        """The line in words."""
         return "%s, line %d" % (shown_name(self.file), self.line)
 
 
@@ -60,6 +62,7 @@ class Cell:
         self.said: Dict[str, Statement] = {}
 
     def is_hidable(self) -> bool:
+        """Whether the cell may be hidden."""
         return self.status != "fixed"
 
     def top(self, units: int) -> int:
@@ -146,12 +149,14 @@ class Book:
         ])
 
     def name_at(self, spans: Sequence[int], places: Sequence[int]) -> Name:
+        """The name of the cell at some places of a table's variables."""
         name = [0] * len(self.trees)
         for k, place in zip(spans, places):
             name[k] = place
         return tuple(name)
 
     def row_of(self, record: Record) -> Optional[Row]:
+        """What a record adds to the tables; nothing where a field of it can't be read."""
         codes = [it.field(record.raw).strip(BLANKS) for it in self.variables]
         value = units_of(self.response.field(record.raw).strip(BLANKS), self.response.decimals())
         weight = units_of(self.weight.field(record.raw).strip(BLANKS),
@@ -195,6 +200,7 @@ class Book:
     # Rules and a priori files.
 
     def read_priors(self) -> List[Statement]:
+        """The lines of all a priori files, by table. A file that can't be read has none."""
         found: List[Statement] = []
         for _, it in sorted(self.job.priors(), key=lambda one: one[1].table):
             if not 1 <= it.table <= len(self.tables):
@@ -207,10 +213,12 @@ class Book:
         return found
 
     def separator(self, statement: Statement) -> bytes:
+        """What stands between the fields of a line's file."""
         return next((it.separator for _, it in self.job.priors() if it.table == statement.table),
                     b",")
 
     def cell_of(self, statement: Statement) -> Optional[int]:
+        """The cell of which a line speaks; nothing where its table shows none."""
         spans, levels = self.tables[statement.table - 1], self.levels[statement.table - 1]
         if not all(self.trees[k].has(code, level)
                    for k, level, code in zip(spans, levels, statement.codes)):
@@ -225,23 +233,28 @@ class Book:
             if cell is not None:
                 self.cells[cell].said.setdefault(statement.keyword, statement)
         man = next((it.numbers[0] for it in self.job.rules() if it.word == "MAN"), 20)
-        for cell in self.cells:
-            ups = self.levels_by_rules(cell)
-            cell.rules = [word for word, _ in ups]
-            if "b" in cell.said and len(cell.said["b"].fields) == 2:
-                low, high = (units_of(it, self.decimals) for it in cell.said["b"].fields)
-                cell.low, cell.high = low or 0, high
-            if (ups and "s" not in cell.said) or ("u" in cell.said and cell.freq):
-                cell.status = "primary"
-                wanted = [level for _, level in ups
-                          ] + ([Fraction(man * cell.truth, 100)] if "u" in cell.said else [])
-                cell.up = max(1, max(-(-it.numerator // it.denominator) for it in wanted))
-                cell.down = min(cell.up, cell.truth)
-                self.stated_levels(cell)
-            elif not cell.freq or "p" in cell.said:
-                cell.status = "fixed"
+        for it in self.cells:
+            self.judge_cell(it, man)
+
+    def judge_cell(self, cell: Cell, man: int) -> None:
+        """Takes what the rules and the lines of the a priori files say of a cell."""
+        ups = self.levels_by_rules(cell)
+        cell.rules = [word for word, _ in ups]
+        if "b" in cell.said and len(cell.said["b"].fields) == 2:
+            low, high = (units_of(it, self.decimals) for it in cell.said["b"].fields)
+            cell.low, cell.high = low or 0, high
+        if (ups and "s" not in cell.said) or ("u" in cell.said and cell.freq):
+            cell.status = "primary"
+            wanted = [level for _, level in ups]
+            wanted += [Fraction(man * cell.truth, 100)] if "u" in cell.said else []
+            cell.up = max(1, max(-(-it.numerator // it.denominator) for it in wanted))
+            cell.down = min(cell.up, cell.truth)
+            self.stated_levels(cell)
+        elif not cell.freq or "p" in cell.said:
+            cell.status = "fixed"
 
     def stated_levels(self, cell: Cell) -> None:
+        """Takes the levels of a cell's `pl` line."""
         if "pl" in cell.said and len(cell.said["pl"].fields) == 2:
             down, up = (units_of(it, self.decimals) for it in cell.said["pl"].fields)
             if down is not None and up:
@@ -315,10 +328,12 @@ class Book:
                                                                  part.denominator)
 
     def tables_text(self, cell: int) -> str:
+        """The tables of a cell in words."""
         return "table %s" % listed([str(it + 1) for it in self.within[cell]])
 
 
 def digits(units: int, decimals: int) -> str:
+    """An amount of units as a released table has it."""
     sign, units = ("-", -units) if units < 0 else ("", units)
     if not decimals:
         return "%s%d" % (sign, units)

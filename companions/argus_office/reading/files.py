@@ -20,6 +20,7 @@ class Unread(Exception):
         self.name, self.reason = name, reason
 
     def text(self) -> str:
+        """The fault in a sentence."""
         return "%s can't be read here: %s." % (shown_name(self.name), self.reason)
 
 
@@ -87,6 +88,7 @@ def grouped(number: int) -> str:
 
 
 def bytes_range(first: int, last: int) -> str:
+    """Bytes of a line in words, by the first and the last of them."""
     return "byte %d" % first if first == last else "bytes %d to %d" % (first, last)
 
 
@@ -105,6 +107,7 @@ class Word(NamedTuple):
     is_quoted: bool
 
     def place(self) -> str:
+        """The bytes of the word in its line."""
         return bytes_range(self.at + 1, self.at + max(self.size, 1))
 
 

@@ -20,11 +20,13 @@ class Line(NamedTuple):
     at: int
 
     def is_passed_over(self) -> bool:
+        """Whether the line is empty or a comment."""
         text = self.raw.strip(BLANKS)
         return not text or text.startswith(b"//")
 
 
 def read_line(number: int, raw: bytes) -> Line:
+    """A line of a job."""
     start = len(raw) - len(raw.lstrip(BLANKS))
     end = raw.find(b">", start)
     if raw[start:start + 1] != b"<" or end <= start + 1:
@@ -45,27 +47,35 @@ class Job:
                 self.said.append((line, value_of(line)))
 
     def of(self, command: str) -> List[Tuple[Line, object]]:
+        """The lines of a command, each with what it says."""
         return [it for it in self.said if it[0].word == command]
 
     def file(self, command: str) -> Optional[bytes]:
+        """The file that a command names, if one does."""
         return next((it for _, it in self.of(command) if isinstance(it, bytes)), None)
 
     def tables(self) -> List[Tuple[Line, Table]]:
+        """The tables, each with its line."""
         return [(line, it) for line, it in self.of("SPECIFYTABLE") if isinstance(it, Table)]
 
     def rules(self) -> List[Rule]:
+        """The rules of the line SAFETYRULE."""
         return next((it for _, it in self.of("SAFETYRULE") if isinstance(it, list)), [])
 
     def is_weighted(self) -> bool:
+        """Whether the values are weighted."""
         return any(it.word == "WGT" and it.numbers == [1] for it in self.rules())
 
     def priors(self) -> List[Tuple[Line, Prior]]:
+        """The a priori files, each with its line."""
         return [(line, it) for line, it in self.of("APRIORI") if isinstance(it, Prior)]
 
     def outputs(self) -> List[Tuple[Line, Output]]:
+        """The files of the tables, each with its line."""
         return [(line, it) for line, it in self.of("WRITETABLE") if isinstance(it, Output)]
 
     def depths(self) -> List[Tuple[Line, Depth]]:
+        """The lines DEPTH with what they say."""
         return [(line, it) for line, it in self.of("DEPTH") if isinstance(it, Depth)]
 
     def depth_at(self, table: int, variable: bytes) -> Optional[Tuple[Line, Depth]]:
@@ -82,6 +92,7 @@ class Job:
         return found[1].level if found else MOST_LEVEL
 
     def method(self) -> Method:
+        """The method; in one pass where the job has none that can be read."""
         return next((it for _, it in self.of("SUPPRESS") if isinstance(it, Method)),
                     Method("MOD", 1))
 
@@ -93,15 +104,18 @@ class Job:
         return default, None
 
     def metadata(self) -> Metadata:
+        """The metadata that the job names. Raises Unread where they can't be read."""
         name = self.file("OPENMETADATA")
         if name is None:
             raise Unread(self.name, "it has no line <OPENMETADATA> with the name of the metadata")
         return Metadata(name)
 
     def line(self, number: int) -> Optional[Line]:
+        """The line of a number, from 1, where there is one."""
         return self.lines[number - 1] if 0 < number <= len(self.lines) else None
 
     def place(self, line: int) -> str:
+        """A line of the job in words."""
         return "%s, line %d" % (shown_name(self.name), line)
 
 
@@ -124,13 +138,16 @@ class Names(NamedTuple):
     weight: Optional[Variable]
 
     def used(self) -> List[Variable]:
+        """All of these variables."""
         return self.spanning + [it for it in (self.response, self.weight) if it is not None]
 
     def needed(self) -> int:
+        """The last byte of a record that a field of these has."""
         return max([it.last() for it in self.used() if it.is_clear()], default=0)
 
 
 def names_of(job: Job, metadata: Metadata) -> Names:
+    """The variables of the metadata that a job uses."""
     wanted = {name for _, table in job.tables() for name in table.variables}
     tables = job.tables()
     response = metadata.find(tables[0][1].response) if tables else None

@@ -7,6 +7,7 @@ from argus_office.reading.files import (BLANKS, Word, content, is_number, lines_
 
 
 def whole(text: bytes) -> Optional[int]:
+    """The whole number that a text is, if it is one."""
     return int(text) if is_number(text) and len(text) < 40 else None
 
 
@@ -32,16 +33,20 @@ class Variable:
         self.keywords: Dict[str, Tuple[int, List[bytes]]] = {}
 
     def last(self) -> int:
+        """The last byte of the field."""
         return (self.first or 1) + (self.width or 1) - 1
 
     def says(self, keyword: str) -> Optional[bytes]:
+        """The first word behind a keyword; nothing where there is none."""
         found = self.keywords.get(keyword)
         return found[1][0] if found and found[1] else None
 
     def is_number(self) -> bool:
+        """Whether the variable is a number, and no code."""
         return "NUMERIC" in self.keywords or "WEIGHT" in self.keywords
 
     def decimals(self) -> int:
+        """How many decimals the values have."""
         said = whole(self.says("DECIMALS") or b"0")
         return min(said or 0, 9)
 
@@ -53,17 +58,21 @@ class Variable:
         return found
 
     def total(self) -> bytes:
+        """The code of the total."""
         said = self.says("TOTCODE")
         return b"Total" if said is None else said.strip(BLANKS)
 
     def lead(self) -> bytes:
+        """What stands before a code in the hierarchy file for each level."""
         return self.says("HIERLEADSTRING") or b"@"
 
     def field(self, record: bytes) -> bytes:
+        """The bytes of the field in a record."""
         start = (self.first or 1) - 1
         return record[start:start + (self.width or 1)]
 
     def is_clear(self) -> bool:
+        """Whether the place of the field can be made out."""
         return bool(self.first and self.width)
 
 
@@ -83,22 +92,28 @@ class Metadata:
                 self.variables.append(Variable(line))
 
     def find(self, name: bytes) -> Optional[Variable]:
+        """The first variable of a name."""
         return next((it for it in self.variables if it.name == name), None)
 
     def weight(self) -> Optional[Variable]:
+        """The variable of the weights, if there is one."""
         return next((it for it in self.variables if "WEIGHT" in it.keywords), None)
 
     def before(self, number: int) -> List[Variable]:
+        """The variables that stand before a line."""
         return [it for it in self.variables if it.line < number]
 
     def line(self, number: int) -> Optional[Line]:
+        """The line of a number, from 1, where there is one."""
         return self.lines[number - 1] if 0 < number <= len(self.lines) else None
 
     def place(self, line: int) -> str:
+        """A line of the metadata in words."""
         return "%s, line %d" % (shown_name(self.name), line)
 
 
 def read_line(number: int, raw: bytes) -> Line:
+    """A line of metadata."""
     start = len(raw) - len(raw.lstrip(BLANKS))
     if raw[start:start + 1] != b"<":
         return Line(number, raw, words_of(raw), None)

@@ -17,6 +17,7 @@ class Record(NamedTuple):
 
 
 def records_of(data: bytes) -> Iterator[Record]:
+    """The records of a file."""
     number = 0
     for k, raw in enumerate(lines_of(data)):
         if raw:
@@ -34,6 +35,7 @@ def units_of(text: bytes, decimals: int) -> Optional[int]:
 
 
 def is_skipped(raw: bytes, response: Variable) -> bool:
+    """Whether a record has no response, so that argus skips it."""
     text = response.field(raw).strip(BLANKS)
     return not text or text in response.missing
 
@@ -50,6 +52,7 @@ class Microdata:
         self.records = list(records_of(self.data))
 
     def of_number(self, number: int) -> Optional[Record]:
+        """The record of a number, from 1, where there is one."""
         return self.records[number - 1] if 0 < number <= len(self.records) else None
 
     def rows(self) -> Iterator[Record]:
@@ -59,6 +62,7 @@ class Microdata:
                 if response is not None and not is_skipped(it.raw, response))
 
     def place(self, record: Record) -> str:
+        """A record in words: its file and line."""
         also = ""
         if record.line != record.number:
             also = " (record %s: lines without a byte don't count)" % grouped(record.number)

@@ -31,6 +31,7 @@ class Tree:
         return [place for place, it in enumerate(self.depths) if it <= level]
 
     def children(self) -> List[List[int]]:
+        """For each place the places right below it."""
         found: List[List[int]] = [[] for _ in self.codes]
         for place, parent in enumerate(self.parents):
             if parent >= 0:
@@ -127,8 +128,7 @@ def kind_of(variable: Variable) -> str:
 
 def tree_of(variable: Variable, codes: Set[bytes]) -> Tree:
     """The tree of a variable, with the codes that records have."""
-    return {
-        "file": lambda: from_file(variable),
-        "levels": lambda: from_levels(variable, codes),
-        "flat": lambda: flat(variable, codes)
-    }[kind_of(variable)]()
+    kind = kind_of(variable)
+    if kind == "file":
+        return from_file(variable)
+    return from_levels(variable, codes) if kind == "levels" else flat(variable, codes)

@@ -22,6 +22,7 @@ def nearest(word: str, known: Sequence[str]) -> Optional[str]:
 
 
 def same_but_case(name: bytes, known: Iterable[bytes]) -> Optional[bytes]:
+    """A known name that differs from a name in large and small letters alone."""
     return next((it for it in known if it != name and it.lower() == name.lower()), None)
 
 
