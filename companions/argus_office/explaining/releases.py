@@ -9,6 +9,7 @@ from typing import Dict, List, Optional, Tuple
 
 from argus_office.explaining.texts import absent, others_named
 from argus_office.reading.book import Book, digits
+from argus_office.reading.certificate import lines_with
 from argus_office.reading.files import (BLANKS, Unread, bare, content, grouped, lines_of, listed,
                                         shown, shown_name)
 from argus_office.reading.job import Job, written
@@ -101,15 +102,14 @@ def nth_line(name: Optional[bytes], word: str, number: int) -> str:
     """Where the line of a certificate or a contributors' file is, counted from 0 among those of its
     word."""
     try:
-        found = [(k + 1, it) for k, it in enumerate(lines_of(content(name or b"")))
-                 if it.split(b" ")[0] == word.encode()]
+        found = lines_with(content(name or b""), word.encode())
     except Unread:
         return ""
     if number >= len(found):
-        return "%s has %d `%s` line%s. " % (shown_name(
-            name or b""), len(found), word, "" if len(found) == 1 else "s")
-    return "%s, line %d: %s. " % (shown_name(name or b""), found[number][0], shown(
-        found[number][1]))
+        return "%s has %d `%s` line%s. " % (shown_name(name or b""), len(found), word,
+                                            "" if len(found) == 1 else "s")
+    return "%s, line %d: %s. " % (shown_name(name or b""), found[number][0],
+                                  shown(found[number][1]))
 
 
 def inner(words: List[str]) -> str:

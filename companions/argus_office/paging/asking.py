@@ -9,7 +9,7 @@ from concurrent.futures import Future, ThreadPoolExecutor
 from fractions import Fraction
 from typing import Dict, Optional, Tuple
 
-from argus_office.paging.files import Stop, content
+from argus_office.paging.files import Stop, text_in
 from argus_office.programs import ProgramFault, Programs
 
 # By cell the two ends of an interval, in units; a high that is open is None.
@@ -65,7 +65,7 @@ class Argus:
             if status != 0:
                 return None, said.strip()
             found: Ranges = {}
-            for row in csv.reader(io.StringIO(content(out))):
+            for row in csv.reader(io.StringIO(text_in(out))):
                 if row and row[0] != "cell":
                     high = None if row[2] == "open" else Fraction(row[2])
                     found[int(row[0])] = (Fraction(row[1]), high)

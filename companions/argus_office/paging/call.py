@@ -60,8 +60,7 @@ def stop_on_taken(out: str, call: Call) -> None:
     """Refuses a name that would overwrite anything but an earlier page of the same kind, and the
     name of a public page for another."""
     job = Job(call.names[0])
-    metadata = Metadata(job.file("OPENMETADATA"))
-    used = job.used() + [it for v in metadata.variables for it in metadata.files(v)]
+    used = job.used() + Metadata(job.metadata()).files()
     if os.path.realpath(out) in {os.path.realpath(it) for it in used}:
         raise Stop("%s is a file of the job: give the page another name" % out)
     if not call.is_public and out.endswith(PUBLIC_END):

@@ -4,7 +4,7 @@ any size stay exact."""
 import json
 from typing import Any, Dict, Iterable, List, Optional
 
-from argus_office.paging.certificate import Fact
+from argus_office.paging.amounts import Fact
 from argus_office.paging.release import Release
 from argus_office.paging.sheets import Sheets, layout_of
 from argus_office.paging.texts import pieces_of, visible

@@ -3,10 +3,11 @@
 from typing import List, Optional
 
 from argus_office.paging.asking import Argus, Listing, Ranges
-from argus_office.paging.certificate import Amounts, Certificate, Fact, Relation
-from argus_office.paging.certificate import listing_of, relations_of
+from argus_office.paging.amounts import Amounts, Fact, Relation, listing_of, relations_of
 from argus_office.paging.files import Job, Metadata, Refused, Stop, content
 from argus_office.paging.tables import Book, Table
+from argus_office.reading.certificate import BadCertificate, Certificate
+from argus_office.reading.files import Unread, opened
 
 # The rules, in the order in which their colours are looked up: a cell has that of the first rule
 # that names it.
@@ -38,7 +39,7 @@ class Release:
         self, job_name: str, is_public: bool, program: Optional[str], is_checked: bool = True
     ) -> None:
         self.is_public, self.job = is_public, Job(job_name)
-        self.metadata = Metadata(self.job.file("OPENMETADATA"))
+        self.metadata = Metadata(self.job.metadata())
         self.notes: List[str] = []
         argus = Argus(program)
         try:
@@ -55,10 +56,14 @@ class Release:
             ranges = argus.intervals(name) if self.job.base is None else None
         if judgement:
             self.judge(*judgement.result())
+        self.job.check()
         self.read_tables()
         if self.is_public:
             return
-        self.certificate = Certificate(content(self.job.file("CERTIFICATE")))
+        try:
+            self.certificate = Certificate(content(self.job.certificate()))
+        except BadCertificate as fault:
+            raise Stop(str(fault)) from fault
         self.take_listings(listing.result(), sums.result())
         if ranges and self.hidden:
             self.ranges, why = ranges.result()
@@ -181,8 +186,8 @@ class Release:
         if not self.facts:
             return None
         try:
-            with open(self.job.file("OPENMICRODATA"), "rb") as file:
+            with opened(self.job.microdata()) as file:
                 count = sum(1 for line in file if line not in (b"\n", b"\r\n"))
-        except OSError:
+        except (OSError, Unread):
             return None
         return count - self.facts[0].records

@@ -2,7 +2,7 @@
 
 from typing import List, NamedTuple, Tuple
 
-from argus_office.paging.certificate import Fact
+from argus_office.paging.amounts import Fact
 from argus_office.paging.part import Part
 from argus_office.paging.release import RULES, WAYS
 from argus_office.paging.tables import Table

@@ -8,9 +8,10 @@ import re
 from fractions import Fraction
 from typing import Dict, Iterable, List, Optional, Sequence, Tuple
 
-from argus_office.paging.certificate import Fact, Need, Number, Step
+from argus_office.paging.amounts import Fact, Number
 from argus_office.paging.release import Release
 from argus_office.paging.texts import as_sum, linked, some, visible
+from argus_office.reading.certificate import Need, Step
 
 # A sum names at most so many of its terms, the largest; what the others come to is said in one.
 LARGEST = 3

@@ -4,41 +4,77 @@ argus reads bytes, so places count bytes from 1. A blank is a space or a tab; a 
 with CR and LF (docs/MANUAL.md, All text files).
 """
 
+import errno
 import os
 import stat
-from typing import Iterable, List, NamedTuple
+from typing import BinaryIO, Iterable, List, NamedTuple, Optional
 
 BLANKS = b" \t"
 MARK = b"\xef\xbb\xbf"
+# argus takes so many bytes of an input at most.
 LONGEST_FILE = 268435456
 
 
 class Unread(Exception):
-    """A file that couldn't be read: its name, and the reason in a few words."""
-    def __init__(self, name: bytes, reason: str):
+    """A file that couldn't be read: its name, the reason in a few words, and the system's own."""
+    def __init__(self, name: bytes, reason: str, number: int = 0) -> None:
         super().__init__(name, reason)
         self.name, self.reason = name, reason
+        self.system = os.strerror(number) if number else reason
 
     def text(self) -> str:
         """The fault in a sentence."""
         return "%s can't be read here: %s." % (shown_name(self.name), self.reason)
 
+    def line(self) -> str:
+        """The fault in a line, as a program says it: the name, and the system's reason."""
+        return "%s: %s" % (text_of(self.name), self.system)
 
-def content(name: bytes) -> bytes:
-    """The bytes of a plain file; a device or a pipe isn't opened, since it could keep us waiting.
-    """
+
+def opened(name: bytes) -> BinaryIO:
+    """A plain file, opened. A pipe or a device isn't waited for. Raises Unread."""
     try:
-        found = os.stat(name)
-        if not stat.S_ISREG(found.st_mode):
-            raise Unread(name, "it is no plain file")
-        if found.st_size > LONGEST_FILE:
-            raise Unread(name, "it has %d bytes, more than argus takes" % found.st_size)
-        with open(name, "rb") as file:
-            return file.read()
+        check_plain(name, os.stat(name).st_mode)
+        number = os.open(name, os.O_RDONLY | os.O_NONBLOCK | os.O_CLOEXEC)
     except OSError as fault:
         raise Unread(name, fault.strerror or "unknown reason") from fault
     except ValueError as fault:
         raise Unread(name, "its name can't be that of a file") from fault
+    try:
+        check_plain(name, os.fstat(number).st_mode)
+    except Unread:
+        os.close(number)
+        raise
+    return os.fdopen(number, "rb")
+
+
+def check_plain(name: bytes, mode: int) -> None:
+    """Raises Unread where a mode isn't that of a plain file."""
+    if not stat.S_ISREG(mode):
+        raise Unread(name, "it is no plain file", errno.EISDIR if stat.S_ISDIR(mode) else 0)
+
+
+def content(name: bytes, most: Optional[int] = LONGEST_FILE) -> bytes:
+    """The bytes of a plain file of at most so many, as many as argus takes of an input; of any size
+    where there is no limit. Raises Unread."""
+    with opened(name) as file:
+        size = os.fstat(file.fileno()).st_size
+        if most is not None and size > most:
+            raise Unread(name, "it has %d bytes, more than argus takes" % size)
+        try:
+            return file.read()
+        except OSError as fault:
+            raise Unread(name, fault.strerror or "unknown reason") from fault
+
+
+def text_of(data: bytes) -> str:
+    """Bytes as a text: UTF-8, where bytes that are none stay as surrogates."""
+    return data.decode("utf-8", "surrogateescape")
+
+
+def bytes_of(text: str) -> bytes:
+    """The bytes of a text that was made of bytes so."""
+    return text.encode("utf-8", "surrogateescape")
 
 
 def lines_of(data: bytes) -> List[bytes]:

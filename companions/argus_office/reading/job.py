@@ -50,6 +50,12 @@ class Job:
         """The lines of a command, each with what it says."""
         return [it for it in self.said if it[0].word == command]
 
+    def argument(self, command: str) -> Optional[bytes]:
+        """What stands behind a command, as it stands; nothing where no line has it."""
+        for line, _ in self.of(command):
+            return line.raw[line.at:].strip(BLANKS)
+        return None
+
     def file(self, command: str) -> Optional[bytes]:
         """The file that a command names, if one does."""
         return next((it for _, it in self.of(command) if isinstance(it, bytes)), None)
@@ -160,3 +166,14 @@ def written(job: Job) -> List[Tuple[Line, bytes]]:
     found = [(line, it.file) for line, it in job.outputs()]
     return found + [(line, it) for word in ("CERTIFICATE", "CONTRIBUTORS")
                     for line, it in job.of(word) if isinstance(it, bytes)]
+
+
+def inputs(job: Job) -> List[bytes]:
+    """The files that a job names to be read: microdata, metadata and a priori files."""
+    named = (job.file("OPENMICRODATA"), job.file("OPENMETADATA"))
+    return [it for it in named if it is not None] + [it.file for _, it in job.priors()]
+
+
+def outputs(job: Job) -> List[bytes]:
+    """The files that a job names to be written, in the order of its lines."""
+    return [name for line, name in sorted(written(job), key=lambda it: it[0].number)]

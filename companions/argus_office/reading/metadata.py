@@ -41,6 +41,11 @@ class Variable:
         found = self.keywords.get(keyword)
         return found[1][0] if found and found[1] else None
 
+    def files(self) -> List[bytes]:
+        """The code list and the hierarchy file, as far as they are named."""
+        named = (self.says("CODELIST"), self.says("HIERCODELIST"))
+        return [it for it in named if it is not None]
+
     def is_number(self) -> bool:
         """Whether the variable is a number, and no code."""
         return "NUMERIC" in self.keywords or "WEIGHT" in self.keywords

@@ -1,6 +1,6 @@
 """The tree of a variable's codes: from a hierarchy file, from levels, or flat."""
 
-from typing import Dict, List, Set, Tuple
+from typing import List, Set, Tuple
 
 from argus_office.reading.files import BLANKS, content, lines_of
 from argus_office.reading.metadata import Variable
@@ -96,16 +96,25 @@ def from_levels(variable: Variable, codes: Set[bytes]) -> Tree:
     return tree
 
 
+def labelled_codes(name: bytes) -> List[Tuple[bytes, bytes]]:
+    """The lines of a code list that have a code: the code, and the label behind the comma."""
+    found = []
+    for line in lines_of(content(name)):
+        code, _, label = line.partition(b",")
+        if unquoted(code):
+            found.append((unquoted(code), unquoted(label)))
+    return found
+
+
+def unquoted(text: bytes) -> bytes:
+    """A text without the blanks and the quotes around it."""
+    text = text.strip(BLANKS)
+    return text[1:-1] if len(text) > 1 and text[:1] == text[-1:] == b'"' else text
+
+
 def code_list(name: bytes) -> List[bytes]:
     """The codes of a code list, each once."""
-    found: Dict[bytes, None] = {}
-    for line in lines_of(content(name)):
-        code = line.partition(b",")[0].strip(BLANKS)
-        if len(code) > 1 and code[:1] == code[-1:] == b'"':
-            code = code[1:-1]
-        if code:
-            found.setdefault(code)
-    return list(found)
+    return list(dict.fromkeys(code for code, _ in labelled_codes(name)))
 
 
 def flat(variable: Variable, codes: Set[bytes]) -> Tree:
