@@ -21,20 +21,21 @@ is 0 where the lines were printed, 1 for the usage line, 2 where something can't
 """
 
 import csv
-import io
 import os
 import re
 import sys
 from typing import Dict, FrozenSet, List, Optional, Set, Tuple
 
 from argus_office.programs import ProgramFault, Programs, said_by
+from argus_office.reading import job as reading
+from argus_office.reading.files import Unread, bytes_of, content, marked, text_of
+from argus_office.reading.priors import statements_of
+from argus_office.reading.tables import Listing, rows_of
 
 USAGE = "usage: argus carry LAST.job THIS.job [--table N] [--cells PROGRAM]"
-# The columns of a listing between the table numbers and the value are those of the variables.
-AFTER_VARIABLES = "value"
 # What may stand between the fields of an a priori file, by preference; no digit, point, quote or
 # blank may.
-SEPARATORS = ",;|:#~^!"
+SEPARATORS = (b",", b";", b"|", b":", b"#", b"~", b"^", b"!")
 # A cell by its codes: variable and code, without the variables that are at their total.
 Cell = FrozenSet[Tuple[str, str]]
 
@@ -43,53 +44,37 @@ class Stop(Exception):
     """What can't be read, in one line."""
 
 
-def content(name: str) -> str:
+def rows_in(text: str, name: str) -> List[List[str]]:
+    """The rows of a table or a listing. Raises Stop where it has none."""
     try:
-        with open(name, "rb") as file:
-            return file.read().decode("latin-1")
-    except (OSError, ValueError) as fault:
-        raise Stop("%s: %s" % (name, getattr(fault, "strerror", None) or fault)) from fault
-
-
-def rows_of(text: str, name: str) -> List[List[str]]:
-    try:
-        return [row for row in csv.reader(io.StringIO(text, newline=""), strict=True)]
+        return rows_of(text, True)
     except csv.Error as fault:
         raise Stop("%s: no table of argus (%s)" % (name, fault)) from fault
 
 
 class Job:
-    """What a job says of its tables, their files and its a priori files."""
+    """What a job says of its tables, their files and its a priori files. Raises Stop where it can't
+    be read or has no table."""
     def __init__(self, name: str) -> None:
         self.name, self.folder = name, os.path.dirname(name)
-        self.tables: List[List[str]] = []
-        self.written: Dict[int, str] = {}
-        self.stated: Dict[int, Tuple[str, str]] = {}
-        for line in content(name).split("\n"):
-            matched = re.match(r"[ \t]*<([^<>]*)>(.*)", line)
-            if matched:
-                self.take(matched[1].upper(), matched[2].strip(" \t\r"))
+        try:
+            self.source = reading.Job(os.fsencode(name))
+        except Unread as fault:
+            raise Stop(fault.line()) from fault
+        tables = [it for _, it in self.source.tables()]
+        self.tables = [list(map(text_of, it.variables)) for it in tables]
+        self.written = {it.table: text_of(it.file) for _, it in self.source.outputs()}
+        self.stated = {it.table: it for _, it in self.source.priors()}
         if not self.tables:
             raise Stop("%s: no line <SPECIFYTABLE>" % name)
 
-    def take(self, command: str, argument: str) -> None:
-        if command == "SPECIFYTABLE":
-            front = re.match(r'(?:"[^"]*"|[^"|])*', argument)
-            self.tables.append(re.findall(r'"([^"]*)"', front[0] if front else ""))
-        elif command == "WRITETABLE":
-            matched = re.fullmatch(r'\([ \t]*(\d{1,9})[ \t]*,[ \t]*"([^"]*)"[ \t]*\)', argument)
-            if matched:
-                self.written[int(matched[1])] = matched[2]
-        elif command == "APRIORI":
-            matched = re.fullmatch(r'"([^"]*)"[ \t]*,[ \t]*(\d{1,9})[ \t]*,[ \t]*"(.)"', argument)
-            if matched:
-                self.stated[int(matched[2])] = (matched[1], matched[3])
-
-    def content(self, name: str) -> str:
-        return content(os.path.join(self.folder, name))
+    def path(self, name: str) -> str:
+        """The path of a file that the job names."""
+        return os.path.join(self.folder, name)
 
 
 def cell_of(variables: List[str], codes: List[str], totals: Dict[str, str]) -> Cell:
+    """A cell by its codes."""
     return frozenset((name, code) for name, code in zip(variables, codes) if code != totals[name])
 
 
@@ -100,8 +85,11 @@ def hidden_of(job: Job) -> List[Cell]:
     for number, variables in enumerate(job.tables, 1):
         if number not in job.written:
             raise Stop("%s: no line <WRITETABLE> for table %d" % (job.name, number))
-        name = os.path.join(job.folder, job.written[number])
-        rows = rows_of(job.content(job.written[number]), name)
+        name = job.path(job.written[number])
+        try:
+            rows = rows_in(text_of(content(os.fsencode(name), None)), name)
+        except Unread as fault:
+            raise Stop(fault.line()) from fault
         if len(rows) < 2 or rows[0][:-1] != variables or any(
                 len(row) != len(rows[0]) for row in rows):
             raise Stop("%s: not the table %d of %s: its first line should name %s" %
@@ -115,28 +103,31 @@ def hidden_of(job: Job) -> List[Cell]:
     return found
 
 
-class Listing:
+class Cells:
     """This year's cells by their codes, as the program cells lists them."""
     def __init__(self, job: Job, program: Optional[str]) -> None:
-        rows = rows_of(listed(job, program), "the listing of %s" % job.name)
-        head = rows[0] if rows else []
-        if head[:2] != ["cell", "tables"] or AFTER_VARIABLES not in head or len(rows) < 2 or any(
-                len(row) != len(head) for row in rows):
-            raise Stop("%s printed no listing of %s" % (program or "cells", job.name))
-        end = len(head) - 1 - head[::-1].index(AFTER_VARIABLES)
-        self.variables, at = head[2:end], {
-            name: end + place
-            for place, name in enumerate(head[end:])
-        }
-        self.totals = dict(zip(self.variables, rows[1][2:end]))
+        rows = rows_in(listed(job, program), "the listing of %s" % job.name)
+        try:
+            listing = Listing(rows)
+        except ValueError as fault:
+            raise no_listing(job, program) from fault
+        if not listing.is_whole():
+            raise no_listing(job, program)
+        self.variables = listing.variables
+        self.totals = dict(zip(self.variables, listing.codes(listing.rows[0])))
         self.tables: Dict[Cell, Set[int]] = {}
         self.status: Dict[Cell, str] = {}
         self.codes: Set[Tuple[str, str]] = set()
-        for row in rows[1:]:
-            cell = cell_of(self.variables, row[2:end], self.totals)
+        for row in listing.rows:
+            cell = cell_of(self.variables, listing.codes(row), self.totals)
             self.tables[cell] = {int(it) for it in row[1].split()}
-            self.status[cell] = row[at["status"]]
+            self.status[cell] = row[listing.at["status"]]
             self.codes.update(cell)
+
+
+def no_listing(job: Job, program: Optional[str]) -> Stop:
+    """The fault that the program cells printed something else."""
+    return Stop("%s printed no listing of %s" % (program or "cells", job.name))
 
 
 def listed(job: Job, program: Optional[str]) -> str:
@@ -149,7 +140,7 @@ def listed(job: Job, program: Optional[str]) -> str:
         raise Stop(str(fault)) from fault
     if said.status:
         raise Stop("cells %s: %s" % (name, said.err.strip() or "status %d" % said.status))
-    return said.out.encode("utf-8", "surrogateescape").decode("latin-1")
+    return said.out
 
 
 def priced(job: Job, totals: Dict[str, str]) -> Set[Cell]:
@@ -157,19 +148,23 @@ def priced(job: Job, totals: Dict[str, str]) -> Set[Cell]:
     price would be refused.
     """
     found: Set[Cell] = set()
-    for number, (name, separator) in job.stated.items():
+    for number, it in job.stated.items():
         variables = job.tables[number - 1] if 1 <= number <= len(job.tables) else []
-        for line in job.content(name).split("\n"):
-            fields = [field.strip(" \t\r") for field in line.split(separator)]
-            if len(fields) == len(variables) + 2 and fields[-2].lower() == "c":
-                found.add(cell_of(variables, fields, totals))
+        try:
+            path = os.fsencode(job.path(text_of(it.file)))
+            statements = statements_of(path, number, it.separator, len(variables))
+        except Unread as fault:
+            raise Stop(fault.line()) from fault
+        for line in statements:
+            if line.keyword == "c" and len(line.fields) == 1:
+                found.add(cell_of(variables, list(map(text_of, line.codes)), totals))
     return found
 
 
 class Lines:
     """The lines, and how many of last year's cells have none for which reason."""
     def __init__(self, last: Job, this: Job, number: int, program: Optional[str]) -> None:
-        listing = Listing(this, program)
+        listing = Cells(this, program)
         variables = this.tables[number - 1]
         self.hidden = hidden_of(last)
         self.lost: Dict[str, int] = {}
@@ -184,9 +179,12 @@ class Lines:
         rows = [[dict(cell).get(name, listing.totals[name]) for name in variables]
                 for cell in self.cells]
         self.separator = separator_for(this, number, rows)
-        self.lines = [self.separator.join(row + ["c", "1"]) for row in rows]
+        self.lines = [
+            self.separator.join([bytes_of(it) for it in row] + [b"c", b"1"]) for row in rows
+        ]
 
-    def reason(self, cell: Cell, listing: Listing, number: int, known: Set[Cell]) -> str:
+    def reason(self, cell: Cell, listing: Cells, number: int, known: Set[Cell]) -> str:
+        """Why a cell of last year has no line; empty where it has one."""
         if any(name not in listing.variables for name, _ in cell):
             return "of a variable that is in no table now"
         if any(it not in listing.codes for it in cell):
@@ -200,20 +198,21 @@ class Lines:
         return "with a price of its own" if cell in known else ""
 
     def said(self) -> str:
+        """What became of last year's cells."""
         parts = ["%d %s" % (count, why) for why, count in sorted(self.lost.items())]
         return "%d hidden last year: %s" % (len(
             self.hidden), "; ".join(["%d with a line" % len(self.lines)] + parts))
 
 
-def separator_for(job: Job, number: int, rows: List[List[str]]) -> str:
+def separator_for(job: Job, number: int, rows: List[List[str]]) -> bytes:
     """The byte that the job names for the table's file, or else one that no code has."""
-    used = set("".join("".join(row) for row in rows))
+    used = bytes_of("".join("".join(row) for row in rows))
     if number in job.stated:
-        separator = job.stated[number][1]
+        separator = job.stated[number].separator
         if separator in used:
             raise Stop(
                 "%s: a code has a %s in it, which <APRIORI> names as the separator: take another "
-                "there" % (job.name, separator))
+                "there" % (job.name, text_of(separator)))
         return separator
     for separator in SEPARATORS:
         if separator not in used:
@@ -222,6 +221,7 @@ def separator_for(job: Job, number: int, rows: List[List[str]]) -> str:
 
 
 def words_of(given: List[str]) -> Optional[Tuple[str, str, int, Optional[str]]]:
+    """The two jobs, the table and the program of a call; nothing where the words are none."""
     names, number, program = [], 0, None
     while given:
         word = given.pop(0)
@@ -237,18 +237,15 @@ def words_of(given: List[str]) -> Optional[Tuple[str, str, int, Optional[str]]]:
 
 
 def table_of(job: Job, number: int) -> int:
+    """The table that the lines are for. Raises Stop where it isn't clear."""
     if number > len(job.tables) or not number and len(job.tables) > 1:
         raise Stop("%s has %d tables: say --table 1 to --table %d, and call once for each" %
                    (job.name, len(job.tables), len(job.tables)))
     return number or 1
 
 
-def shown(text: str) -> str:
-    """A text of one line: what can't be printed is marked."""
-    return "".join(it if " " <= it <= "~" else "?" for it in text)
-
-
 def main(words: List[str]) -> int:
+    """Prints the lines that the words ask for, and gives the status."""
     given = words_of(words)
     if given is None:
         print(USAGE, file=sys.stderr)
@@ -257,14 +254,14 @@ def main(words: List[str]) -> int:
         last, this = Job(given[0]), Job(given[1])
         number = table_of(this, given[2])
         found = Lines(last, this, number, given[3])
-        sys.stdout.buffer.write("".join(line + "\n" for line in found.lines).encode("latin-1"))
+        sys.stdout.buffer.write(b"".join(line + b"\n" for line in found.lines))
         sys.stdout.flush()
     except Stop as fault:
-        print("carry: %s" % shown(str(fault)), file=sys.stderr)
+        print("carry: %s" % marked(str(fault)), file=sys.stderr)
         return 2
-    print("carry: %s" % shown(found.said()), file=sys.stderr)
+    print("carry: %s" % marked(found.said()), file=sys.stderr)
     if found.lines and number not in this.stated:
         print('carry: the job names the file so: <APRIORI> "FILE",%d,"%s"' %
-              (number, found.separator),
+              (number, text_of(found.separator)),
               file=sys.stderr)
     return 0

@@ -27,13 +27,13 @@ import sys
 from typing import Dict, List, Optional, Tuple
 
 from argus_office.programs import ProgramFault, Programs
+from argus_office.reading.files import (
+    Unread, bytes_of, content, lines_of, marked, opened, text_of
+)
+from argus_office.reading.job import Job, inputs, names_of, outputs
 
 USAGE = "usage: argus seal JOB [--force] [--argus PROGRAM] | argus seal --check JOB"
 MARK = "# argus seal 1"
-# A line of a job: a command and what follows it. A word of metadata: between quotes, or up to the
-# next blank.
-COMMAND = re.compile(r"[ \t]*<([^<>]*)>(.*)", re.DOTALL)
-WORD = re.compile(r'"([^"]*)"|([^ \t]+)')
 # A line of a seal that names a file, as sha256sum writes it: with \ in front where the name has
 # one, which is doubled then.
 SEALED = re.compile(r"(\\?)([0-9a-f]{64})  (.+)")
@@ -46,91 +46,50 @@ class Stop(Exception):
         self.status = status
 
 
-def content(name: str) -> bytes:
-    try:
-        with open(name, "rb") as file:
-            return file.read()
-    except (OSError, ValueError) as fault:
-        raise Stop("%s: %s" % (name, getattr(fault, "strerror", None) or fault)) from fault
-
-
-def lines_of(name: str) -> List[str]:
-    return [line.rstrip("\r") for line in content(name).decode("latin-1").split("\n")]
-
-
 def sum_of(name: str) -> str:
+    """The SHA-256 of a file. Raises Stop where it can't be read."""
     found = hashlib.sha256()
     try:
-        with open(name, "rb") as file:
+        with opened(os.fsencode(name)) as file:
             for part in iter(lambda: file.read(1 << 20), b""):
                 found.update(part)
-    except (OSError, ValueError) as fault:
-        raise Stop("%s: %s" % (name, getattr(fault, "strerror", None) or fault)) from fault
+    except Unread as fault:
+        raise Stop(fault.line()) from fault
+    except OSError as fault:
+        raise Stop("%s: %s" % (name, fault.strerror)) from fault
     return found.hexdigest()
 
 
 # ---- which files a release is of
 
 
-def commands_of(job: str) -> List[Tuple[str, List[str]]]:
-    """The job's commands in capital letters, each with the quoted words of its argument; of a table
-    those before the bar, which span it.
-    """
-    found = []
-    for line in lines_of(job):
-        matched = COMMAND.match(line)
-        if matched:
-            front = matched[2]
-            if matched[1].upper() == "SPECIFYTABLE":
-                before = re.match(r'(?:"[^"]*"|[^"|])*', front)
-                front = before[0] if before else ""
-            found.append((matched[1].upper(), re.findall(r'"([^"]*)"', front)))
-    return found
-
-
-def files_of_variables(metadata: str, spanning: List[str]) -> List[str]:
-    """The code lists and hierarchy files of the variables that span a table: those of the others
-    aren't read.
-    """
-    found, variable = [], ""
-    for line in lines_of(metadata):
-        words = [quoted or plain for quoted, plain in WORD.findall(line)]
-        if not words:
-            continue
-        matched = COMMAND.match(line)
-        if not matched:
-            variable = words[0]
-        elif matched[1].upper() in ("CODELIST", "HIERCODELIST") and variable in spanning:
-            found += [quoted or plain for quoted, plain in WORD.findall(matched[2])][:1]
-    return found
-
-
-def files_of(job: str) -> Tuple[List[str], List[str]]:
-    """What the job reads, itself first, and what it writes; each file once."""
-    commands = commands_of(job)
-
-    def named(*words: str) -> List[str]:
-        return [names[0] for command, names in commands if command in words and names]
-
-    metadata = named("OPENMETADATA")
-    spanning = [name for command, names in commands if command == "SPECIFYTABLE" for name in names]
-    inputs = [job] + named("OPENMICRODATA") + metadata
-    for it in metadata:
-        inputs += files_of_variables(it, spanning)
-    inputs += named("APRIORI")
-    outputs = named("CERTIFICATE", "CONTRIBUTORS", "WRITETABLE")
-    return list(dict.fromkeys(inputs)), list(dict.fromkeys(outputs))
+def files_of(name: str) -> Tuple[List[str], List[str]]:
+    """What the job reads, itself first, and what it writes; each file once. Of the variables those
+    that span a table have files: those of the others aren't read."""
+    try:
+        job = Job(os.fsencode(name))
+        has_metadata = job.file("OPENMETADATA") is not None
+        spanning = names_of(job, job.metadata()).spanning if has_metadata else []
+    except Unread as fault:
+        raise Stop(fault.line()) from fault
+    named, priors = inputs(job), [it.file for _, it in job.priors()]
+    listed = [it for variable in spanning for it in variable.files()]
+    read = named[:len(named) - len(priors)] + listed + priors
+    found = [name, *map(text_of, read)]
+    return list(dict.fromkeys(found)), list(dict.fromkeys(map(text_of, outputs(job))))
 
 
 def sums_of(job: str) -> Tuple[Dict[str, str], Dict[str, str]]:
-    inputs, outputs = files_of(job)
-    return {it: sum_of(it) for it in inputs}, {it: sum_of(it) for it in outputs}
+    """The SHA-256 of each file that a job reads, and of each that it writes."""
+    read, written = files_of(job)
+    return {it: sum_of(it) for it in read}, {it: sum_of(it) for it in written}
 
 
 # ---- what argus says
 
 
 def ask(program: Programs, *words: str) -> Tuple[int, str]:
+    """The status and the answer of argus. Raises Stop where it can't be asked."""
     try:
         said = program.ask(*words)
     except ProgramFault as fault:
@@ -139,6 +98,7 @@ def ask(program: Programs, *words: str) -> Tuple[int, str]:
 
 
 def checksum_of(program: Programs) -> str:
+    """The SHA-256 of the program. Raises Stop where it can't be read."""
     try:
         return program.checksum()
     except ProgramFault as fault:
@@ -156,40 +116,49 @@ def version_of(program: Programs) -> str:
 
 
 def line_of(name: str, found: str) -> str:
+    """The line of a file, as sha256sum writes it."""
     escaped = name.replace("\\", "\\\\")
     return "%s%s  %s" % ("\\" if escaped != name else "", found, escaped)
 
 
 def name_of(job: str) -> str:
+    """The name of a job's seal."""
     return re.sub(r"\.job$", "", job) + ".seal"
 
 
-def is_seal(name: str) -> bool:
-    return content(name).startswith(MARK.encode("ascii") + b"\n")
+def lines_in(name: str) -> List[str]:
+    """The lines of a seal. Raises Stop where it can't be read."""
+    try:
+        return [text_of(it) for it in lines_of(content(os.fsencode(name), None))]
+    except Unread as fault:
+        raise Stop(fault.line()) from fault
 
 
 def put(name: str, text: str) -> None:
+    """Writes a seal beside its place, and then puts it there whole."""
     part = "%s.%d.part" % (name, os.getpid())
     try:
-        with open(part, "w", encoding="latin-1", newline="\n") as file:
-            file.write(text)
+        with open(part, "wb") as file:
+            file.write(bytes_of(text))
         os.replace(part, name)
     except OSError as fault:
         raise Stop("%s: %s" % (name, fault.strerror)) from fault
 
 
 def stop_on_taken(out: str, job: str, is_forced: bool) -> None:
-    inputs, outputs = files_of(job)
-    if os.path.realpath(out) in {os.path.realpath(it) for it in inputs + outputs}:
+    """Raises Stop where the seal's name is another file's."""
+    read, written = files_of(job)
+    if os.path.realpath(out) in {os.path.realpath(it) for it in read + written}:
         raise Stop("%s is a file of the job, and no seal" % out)
     if os.path.lexists(out):
-        if not os.path.isfile(out) or not is_seal(out):
+        if not os.path.isfile(out) or lines_in(out)[:1] != [MARK]:
             raise Stop("%s is there and isn't a seal: take it away" % out)
         if not is_forced:
             raise Stop("%s is there already: --check compares with it, --force makes it anew" % out)
 
 
 def seal(job: str, is_forced: bool, program: Programs) -> int:
+    """Writes the seal of a release that argus accepts, and gives the status."""
     out = name_of(job)
     stop_on_taken(out, job, is_forced)
     before = sums_of(job)
@@ -218,8 +187,8 @@ def seal(job: str, is_forced: bool, program: Programs) -> int:
 
 def read_seal(name: str) -> Dict[str, str]:
     """The SHA-256 of each file that a seal names."""
-    lines = lines_of(name)
-    if lines[0] != MARK:
+    lines = lines_in(name)
+    if lines[:1] != [MARK]:
         raise Stop("%s: its first line isn't `%s`" % (name, MARK))
     found = {}
     for number, line in enumerate(lines, 1):
@@ -234,14 +203,15 @@ def read_seal(name: str) -> Dict[str, str]:
 
 
 def check(job: str) -> int:
+    """Compares the files of a job with its seal, and gives the status."""
     sealed = read_seal(name_of(job))
     for name, found in sealed.items():
         if not os.path.isfile(name):
             return say_not("%s isn't there" % name)
         if sum_of(name) != found:
             return say_not("%s is another file" % name)
-    inputs, outputs = files_of(job)
-    for name in inputs + outputs:
+    read, written = files_of(job)
+    for name in read + written:
         if name not in sealed:
             return say_not("the seal has no %s" % name)
     print("sealed")
@@ -249,13 +219,9 @@ def check(job: str) -> int:
 
 
 def say_not(why: str) -> int:
-    print("not sealed: %s" % shown(why))
+    """Says why the files aren't as sealed, and gives the status."""
+    print("not sealed: %s" % marked(why))
     return 3
-
-
-def shown(text: str) -> str:
-    """A text of one line: what can't be printed is marked."""
-    return "".join(it if " " <= it <= "~" else "?" for it in text)
 
 
 def words_of(given: List[str]) -> Optional[Tuple[str, bool, bool, Programs]]:
@@ -278,16 +244,17 @@ def words_of(given: List[str]) -> Optional[Tuple[str, bool, bool, Programs]]:
 
 
 def main(words: List[str]) -> int:
+    """Does what the words say, and gives the status."""
     given = words_of(words)
     if given is None:
         print(USAGE, file=sys.stderr)
         return 1
     job, is_check, is_forced, program = given
     try:
-        if shown(job) != job:
+        if marked(job) != job:
             raise Stop("%s: the name of a job is printable ASCII" % job)
         return check(job) if is_check else seal(job, is_forced, program)
     except Stop as fault:
         sys.stdout.flush()
-        print("seal: %s" % shown(str(fault)), file=sys.stderr)
+        print("seal: %s" % marked(str(fault)), file=sys.stderr)
         return fault.status

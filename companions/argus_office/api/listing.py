@@ -1,15 +1,10 @@
 """The listing of a release's cells, and its tables, as Python values. Amounts are exact."""
 
-import csv
-import io
 from decimal import Decimal
 from fractions import Fraction
 from typing import Any, Dict, List, Mapping, NamedTuple, Optional, Sequence, Tuple
 
-# The columns of a listing that stand before those of the variables, and the first one behind them.
-BEFORE = 2
-BEHIND = "value"
-
+from argus_office.reading.tables import Listing, rows_of
 
 class Cell(NamedTuple):
     """A cell of a release, with its true value: for the office alone.
@@ -54,11 +49,6 @@ class Table(NamedTuple):
     rows: List[Tuple[Tuple[str, ...], Optional[Decimal]]]
 
 
-def rows_of(text: str) -> List[List[str]]:
-    """The rows of a CSV that argus or cells wrote."""
-    return list(csv.reader(io.StringIO(text, newline="")))
-
-
 def table_of(text: str, variables: Sequence[str], response: str) -> Table:
     """A published table."""
     body = rows_of(text)[1:]
@@ -78,21 +68,23 @@ def status_of(status: str, release: str) -> str:
 def cells_of(text: str, names: Mapping[str, str]) -> List[Cell]:
     """The cells of a listing with the release; `names` gives for a job's name of a variable that of
     the column."""
-    header, *body = rows_of(text)
-    # A variable may have the same name as a column behind the variables, so the last one counts.
-    behind = len(header) - 1 - header[::-1].index(BEHIND)
-    variables = [names.get(name, name) for name in header[BEFORE:behind]]
-    return [cell_of(row, variables, dict(zip(header[behind:], row[behind:]))) for row in body]
+    listing = Listing(rows_of(text))
+    variables = [names.get(name, name) for name in listing.variables]
+    found = []
+    for row in listing.rows:
+        fields = {name: row[place] for name, place in listing.at.items()}
+        found.append(cell_of(row, dict(zip(variables, listing.codes(row))), fields))
+    return found
 
 
-def cell_of(row: Sequence[str], variables: Sequence[str], fields: Mapping[str, str]) -> Cell:
+def cell_of(row: Sequence[str], codes: Dict[str, str], fields: Mapping[str, str]) -> Cell:
     """One line of a listing; `fields` are those behind its codes."""
     release = fields["release"]
     shown = fields["value"] if release == "shown" else release
     return Cell(
         number=int(row[0]),
         tables=tuple(int(it) for it in row[1].split()),
-        codes=dict(zip(variables, row[BEFORE:])),
+        codes=codes,
         value=Decimal(fields["value"]),
         freq=int(fields["records"]),
         status=status_of(fields["status"], release),

@@ -1,11 +1,11 @@
 """A release, and what can be asked of it."""
 
+import contextlib
 import importlib
 import os
-import re
 import shutil
 import tempfile
-from typing import Any, Dict, List, NamedTuple, Optional, Sequence, Tuple, Union
+from typing import Any, Dict, Iterator, List, NamedTuple, Optional, Sequence, Tuple, Union
 
 from argus_office.api.faults import (
     ArgusError,
@@ -20,9 +20,9 @@ from argus_office.api.faults import (
 from argus_office.api.listing import Cell, cells_of, flat_row, flat_table, intervals_of, table_of
 from argus_office.api.making import DEPTH, Place
 from argus_office.programs import Programs, Said, companion
+from argus_office.reading import job
+from argus_office.reading.files import Unread, content, text_of
 
-# The quoted words of a line of a job.
-QUOTED = re.compile(r'"([^"\n]*)"')
 
 
 class Job(NamedTuple):
@@ -50,18 +50,19 @@ def job_of(
 ) -> Job:
     """The job among the files that start made."""
     file = next(it for it in files if it.endswith(".job"))
-    lines = text_in(os.path.join(folder, file)).splitlines()
-    stated = [QUOTED.findall(it) for it in lines if it.startswith("<SPECIFYTABLE>")]
+    with reading():
+        source = job.Job(os.fsencode(os.path.join(folder, file)))
+    names = [tuple(map(text_of, it.variables)) for _, it in source.tables()]
     return Job(
         folder=folder,
         file=file,
         value=value,
         columns=[
             tuple(plain_column(it, name) for it, name in zip(table, words))
-            for table, words in zip(tables, stated)
+            for table, words in zip(tables, names)
         ],
-        names=[tuple(words[:-1]) for words in stated],
-        tables=[QUOTED.findall(it)[0] for it in lines if it.startswith("<WRITETABLE>")],
+        names=names,
+        tables=[text_of(it.file) for _, it in source.outputs()],
     )
 
 
@@ -70,13 +71,19 @@ def plain_column(variable: str, name: str) -> str:
     return variable if variable == name else DEPTH.sub("", variable)
 
 
+@contextlib.contextmanager
+def reading() -> Iterator[None]:
+    """Turns the fault of a file that can't be read into FileFault."""
+    try:
+        yield
+    except Unread as fault:
+        raise FileFault(fault.line()) from fault
+
+
 def text_in(path: str) -> str:
     """The text of a file that start or argus wrote. Raises FileFault where it can't be read."""
-    try:
-        with open(path, "rb") as it:
-            return it.read().decode("utf-8", "surrogateescape")
-    except OSError as fault:
-        raise FileFault("%s: %s" % (path, fault.strerror)) from fault
+    with reading():
+        return text_of(content(os.fsencode(path), None))
 
 
 class Release:

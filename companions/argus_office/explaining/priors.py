@@ -7,10 +7,11 @@ from typing import List, NamedTuple, Optional, Tuple
 from argus_office.explaining.records import like_code
 from argus_office.explaining.texts import absent, foreign
 from argus_office.reading.arguments import Prior
-from argus_office.reading.book import Book, Statement
+from argus_office.reading.book import Book
 from argus_office.reading.files import (BLANKS, MARK, bare, bytes_range, content, is_number,
                                         lines_of, listed, shown, shown_name)
 from argus_office.reading.job import Job, Line
+from argus_office.reading.priors import Statement
 from argus_office.reading.records import units_of
 
 # For each keyword how many fields follow it, and what they are.

@@ -8,6 +8,7 @@ from typing import List, NamedTuple, Optional, Tuple, Union
 from argus_office.paging.files import Stop
 from argus_office.paging.tables import Book
 from argus_office.paging.texts import grouped
+from argus_office.reading.tables import Listing, rows_of
 
 # A relation: the cell of a total, and the cells whose sum it is.
 Relation = Tuple[int, List[int]]
@@ -71,16 +72,16 @@ AMOUNTS = ("value", "largest", "second", "up", "down", "low")
 def listing_of(text: str, book: Book, amounts: Amounts) -> List[Fact]:
     """The facts of all cells from their listing. Raises Stop where it is that of other tables."""
     wrong = "the listing of the cells isn't that of the tables: "
-    rows = csv.reader(io.StringIO(text, newline=""))
-    head: List[str] = next(rows, [])
     try:
-        columns = [head.index(it) for it in ("records", "status", "rules", *AMOUNTS, "high")]
-        names, number = [head.index(it) for it in book.variables], head.index("cell")
-    except ValueError as fault:
+        listing = Listing(rows_of(text))
+        columns = [listing.at[it] for it in ("records", "status", "rules", *AMOUNTS, "high")]
+        names = [2 + listing.variables.index(it) for it in book.variables]
+    except (ValueError, KeyError) as fault:
         raise Stop(wrong + "line 1") from fault
     facts: List[Fact] = []
-    for cell, row in enumerate(row for row in rows if row):
-        is_there = cell < len(book.names) and len(row) == len(head) and row[number] == str(cell)
+    for cell, row in enumerate(listing.rows):
+        is_wide = cell < len(book.names) and len(row) == len(listing.head)
+        is_there = is_wide and row[0] == str(cell)
         if not is_there or tuple([row[it] for it in names]) != book.names[cell]:
             raise Stop(wrong + "line %d" % (cell + 2))
         facts.append(fact_of([row[it] for it in columns], amounts))

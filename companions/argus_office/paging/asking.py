@@ -1,8 +1,6 @@
 """What the programs argus and cells say to the words of a page, asked side by side. None of them is
 ever built for a page."""
 
-import csv
-import io
 import os
 import tempfile
 from concurrent.futures import Future, ThreadPoolExecutor
@@ -11,6 +9,7 @@ from typing import Dict, Optional, Tuple
 
 from argus_office.paging.files import Stop, text_in
 from argus_office.programs import ProgramFault, Programs
+from argus_office.reading.tables import rows_of
 
 # By cell the two ends of an interval, in units; a high that is open is None.
 Ranges = Dict[int, Tuple[Fraction, Optional[Fraction]]]
@@ -65,7 +64,7 @@ class Argus:
             if status != 0:
                 return None, said.strip()
             found: Ranges = {}
-            for row in csv.reader(io.StringIO(text_in(out))):
+            for row in rows_of(text_in(out)):
                 if row and row[0] != "cell":
                     high = None if row[2] == "open" else Fraction(row[2])
                     found[int(row[0])] = (Fraction(row[1]), high)

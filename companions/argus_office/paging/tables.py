@@ -1,12 +1,12 @@
 """The released tables, and the book of their cells, numbered as argus numbers them."""
 
 import csv
-import io
 import math
 import re
 from typing import Dict, Iterable, List, Optional, Sequence, Set, Tuple
 
 from argus_office.paging.files import Metadata, Stop, text_in
+from argus_office.reading.tables import rows_of
 
 # What stands in a table for a cell.
 VALUE = re.compile(r"x|[0-9]+(\.[0-9]+)?")
@@ -27,7 +27,7 @@ class Table:
     ) -> None:
         self.number, self.name, self.levels = number, name, levels or {}
         try:
-            rows = list(csv.reader(io.StringIO(text_in(name), newline="")))
+            rows = rows_of(text_in(name))
         except csv.Error as fault:
             raise Stop("table %d (%s): %s" % (number, name, fault)) from fault
         wide = len(variables) + 1

@@ -11,8 +11,9 @@ import itertools
 from fractions import Fraction
 from typing import Dict, Iterator, List, NamedTuple, Optional, Sequence, Set, Tuple
 
-from argus_office.reading.files import BLANKS, Unread, content, lines_of, listed, shown, shown_name
+from argus_office.reading.files import BLANKS, Unread, listed, shown, shown_name
 from argus_office.reading.job import Job
+from argus_office.reading.priors import Statement, statements_of
 from argus_office.reading.records import Microdata, Record, units_of
 from argus_office.reading.trees import tree_of
 
@@ -32,22 +33,6 @@ class Row(NamedTuple):
     def amount(self) -> int:
         """What the record adds to its cells."""
         return self.value * self.weight
-
-
-class Statement(NamedTuple):
-    """A line of an a priori file: the file, its line and its table; the codes of the cell; the
-    keyword and its fields."""
-
-    file: bytes
-    line: int
-    table: int
-    codes: List[bytes]
-    keyword: str
-    fields: List[bytes]
-
-    def place(self) -> str:
-        """The line in words."""
-        return "%s, line %d" % (shown_name(self.file), self.line)
 
 
 class Cell:
@@ -72,18 +57,6 @@ class Cell:
             taken = min(weight, units)
             total, units = total + value * taken, units - taken
         return total
-
-
-def statements_of(name: bytes, table: int, separator: bytes, wide: int) -> List[Statement]:
-    """The lines of an a priori file, as far as they have the codes and a keyword."""
-    found = []
-    for k, raw in enumerate(lines_of(content(name))):
-        fields = [it.strip(BLANKS) for it in raw.split(separator)]
-        if raw.strip(BLANKS) and len(fields) > wide:
-            found.append(
-                Statement(name, k + 1, table, fields[:wide], fields[wide].decode("latin-1").lower(),
-                          fields[wide + 1:]))
-    return found
 
 
 class Book:

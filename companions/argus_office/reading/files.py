@@ -133,6 +133,11 @@ def is_number(text: bytes) -> bool:
     return bool(text) and all(48 <= it <= 57 for it in text)
 
 
+def marked(text: str) -> str:
+    """A text in one line of ASCII: what can't be printed so is marked."""
+    return "".join(it if " " <= it <= "~" else "?" for it in text)
+
+
 class Word(NamedTuple):
     """A word of a line: what it says, without quotes; where it begins, from 0; how many bytes it
     takes there; whether it is quoted."""

@@ -42,9 +42,10 @@ class Variable:
         return found[1][0] if found and found[1] else None
 
     def files(self) -> List[bytes]:
-        """The code list and the hierarchy file, as far as they are named."""
-        named = (self.says("CODELIST"), self.says("HIERCODELIST"))
-        return [it for it in named if it is not None]
+        """The code list and the hierarchy file, as far as they are named, in the order of their
+        lines."""
+        named = [self.keywords.get(it) for it in ("CODELIST", "HIERCODELIST")]
+        return [it[1][0] for it in sorted(it for it in named if it is not None) if it[1]]
 
     def is_number(self) -> bool:
         """Whether the variable is a number, and no code."""
