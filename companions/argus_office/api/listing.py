@@ -6,6 +6,7 @@ from typing import Any, Dict, List, Mapping, NamedTuple, Optional, Sequence, Tup
 
 from argus_office.reading.tables import Listing, rows_of
 
+
 class Cell(NamedTuple):
     """A cell of a release, with its true value: for the office alone.
 

@@ -20,9 +20,8 @@ from argus_office.api.faults import (
 from argus_office.api.listing import Cell, cells_of, flat_row, flat_table, intervals_of, table_of
 from argus_office.api.making import DEPTH, Place
 from argus_office.programs import Programs, Said, companion
-from argus_office.reading import job
 from argus_office.reading.files import Unread, content, text_of
-
+from argus_office.reading.job import Job as JobFile
 
 
 class Job(NamedTuple):
@@ -51,7 +50,7 @@ def job_of(
     """The job among the files that start made."""
     file = next(it for it in files if it.endswith(".job"))
     with reading():
-        source = job.Job(os.fsencode(os.path.join(folder, file)))
+        source = JobFile(os.fsencode(os.path.join(folder, file)))
     names = [tuple(map(text_of, it.variables)) for _, it in source.tables()]
     return Job(
         folder=folder,
