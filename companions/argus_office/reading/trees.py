@@ -1,6 +1,6 @@
 """The tree of a variable's codes: from a hierarchy file, from levels, or flat."""
 
-from typing import List, Set, Tuple
+from typing import Iterable, List, NamedTuple, Set, Tuple
 
 from argus_office.reading.files import BLANKS, content, lines_of
 from argus_office.reading.metadata import Variable
@@ -47,18 +47,32 @@ class Tree:
         return found[max(len(found) - 1 - level, 0):]
 
 
+class Row(NamedTuple):
+    """A line of a hierarchy file that has a code, or leads: its number, its depth and the code."""
+
+    line: int
+    depth: int
+    code: bytes
+
+
+def rows_in(lines: Iterable[bytes], lead: bytes) -> List[Row]:
+    """The lines of a hierarchy file that aren't empty."""
+    found = []
+    for number, line in enumerate(lines, 1):
+        depth = 0
+        while lead and line.startswith(lead, depth * len(lead)):
+            depth += 1
+        if line.strip(BLANKS):
+            found.append(Row(number, depth, line[depth * len(lead):].strip(BLANKS)))
+    return found
+
+
 class Listing:
-    """A hierarchy file: for each line that has a code its number, its depth and the code."""
-    def __init__(self, name: bytes, lead: bytes):
+    """A hierarchy file: its bytes, its lines, and those that aren't empty."""
+    def __init__(self, name: bytes, lead: bytes) -> None:
         self.name, self.data = name, content(name)
         self.raw = lines_of(self.data)
-        self.rows: List[Tuple[int, int, bytes]] = []
-        for k, line in enumerate(self.raw):
-            depth = 0
-            while lead and line.startswith(lead, depth * len(lead)):
-                depth += 1
-            if line.strip(BLANKS):
-                self.rows.append((k + 1, depth, line[depth * len(lead):].strip(BLANKS)))
+        self.rows = rows_in(self.raw, lead)
 
 
 def from_file(variable: Variable) -> Tree:

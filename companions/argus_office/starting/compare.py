@@ -6,15 +6,15 @@ numbers.
 """
 
 import os
-import re
 from fractions import Fraction
 from itertools import zip_longest
 from typing import Dict, Iterator, List, NamedTuple, Sequence, Set, Tuple, Union
 
+from argus_office.reading.metadata import Metadata, Variable
 from argus_office.starting.amounts import Marks
 from argus_office.starting.csv_file import BLANKS, Source
 from argus_office.starting.refusals import Difference, shown
-from argus_office.starting.tree_files import read_tree
+from argus_office.starting.tree_files import read_text, read_tree
 
 
 class Place(NamedTuple):
@@ -37,15 +37,18 @@ class Place(NamedTuple):
 
 def places_of(path: str) -> List[Place]:
     """The variables of the metadata, in order."""
-    found: List[Place] = []
-    with open(path, encoding="latin-1", newline="") as file:
-        for line in file.read().split("\n"):
-            words = [quoted or bare for quoted, bare in re.findall(r'"([^"]*)"|([^ \t"]+)', line)]
-            if line.startswith("<"):
-                found[-1].keywords[words[0]] = words[1:]
-            elif words:
-                found.append(Place(words[0], int(words[1]), int(words[2]), words[3:], {}))
-    return found
+    return [place_of(it) for it in Metadata(os.fsencode(path)).variables]
+
+
+def place_of(variable: Variable) -> Place:
+    """A variable of the metadata, its bytes each as a letter of Latin-1."""
+    keywords: Dict[str, Sequence[str]] = {
+        "<%s>" % keyword: [it.decode("latin-1") for it in words]
+        for keyword, (_, words) in variable.keywords.items()
+    }
+    missing = [it.decode("latin-1") for it in variable.missing]
+    name = variable.name.decode("latin-1")
+    return Place(name, variable.first or 1, variable.width or 1, missing, keywords)
 
 
 class Wanted(NamedTuple):
@@ -79,14 +82,9 @@ class Comparison:
         """The parent of each code, where the tree was written from columns."""
         if not wanted.groups:
             return {}
-        with open(
-            os.path.join(self.folder, place.keywords["<HIERCODELIST>"][0]),
-            encoding="latin-1",
-            newline=""
-        ) as file:
-            return read_tree(
-                file.read(), (place.keywords.get("<HIERLEADSTRING>") or ["@"])[0], "", self.stem
-            )
+        path = os.path.join(self.folder, place.keywords["<HIERCODELIST>"][0])
+        lead = (place.keywords.get("<HIERLEADSTRING>") or ["@"])[0]
+        return read_tree(read_text(path), lead, "", self.stem)
 
     def records(self) -> Iterator[str]:
         """The records of the microdata."""

@@ -2,9 +2,11 @@
 lies below.
 """
 
+import os
 from typing import Dict, List, Optional, Tuple
 
-from argus_office.starting.csv_file import BLANKS
+from argus_office.reading.files import Unread, content, lines_of
+from argus_office.reading.trees import rows_in
 from argus_office.starting.refusals import Refusal, shown
 
 # A tree has at most so many levels below its total.
@@ -31,12 +33,10 @@ def tree_text(parents: Dict[str, str], lead: str) -> str:
 def read_text(path: str) -> str:
     """A hierarchy file, each byte as a letter of Latin-1."""
     try:
-        with open(path, encoding="latin-1", newline="") as file:
-            return file.read()
-    except OSError as fault:
+        return content(os.fsencode(path), None).decode("latin-1")
+    except Unread as fault:
         raise Refusal(
-            fault.strerror or "can't be read", "Correct the name of the hierarchy file",
-            shown(path, 80)
+            fault.system, "Correct the name of the hierarchy file", shown(path, 80)
         ) from fault
 
 
@@ -46,14 +46,9 @@ def read_tree(text: str, lead: str, total: str, name: str) -> Dict[str, str]:
     """
     parents: Dict[str, str] = {}
     above: List[str] = [""]
-    for number, line in enumerate(text.split("\n"), 1):
-        line = line[:-1] if line.endswith("\r") else line
-        depth = 0
-        while line.startswith(lead, depth * len(lead)):
-            depth += 1
-        code = line[depth * len(lead):].strip(BLANKS)
-        if not code and not depth:
-            continue
+    rows = rows_in(lines_of(text.encode("latin-1")), lead.encode("latin-1"))
+    for number, depth, raw in rows:
+        code = raw.decode("latin-1")
         fault = fault_of(code, depth, above, total, parents)
         if fault:
             raise Refusal(
