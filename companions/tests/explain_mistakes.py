@@ -265,10 +265,8 @@ def other(tables: str,
 
 CUBE = b"".join(b"a%db%dc%d  1\n" % it for it in ((1, 1, 1), (2, 1, 1), (2, 1, 2), (2, 2, 2),
                                                   (1, 2, 2), (1, 2, 3), (1, 1, 3)))
-MANY = {
-    **other('"A"', "FREQ(3,30)", "MOD()", b"".join(b"%04d   1\n" % k for k in range(1, 4501))), "firms.rda":
-    b"A 1 4\nV 5 4\n<NUMERIC>\n"
-}
+MANY = other('"A"', "FREQ(3,30)", "MOD()", b"".join(b"%04d   1\n" % k for k in range(1, 4501)))
+MANY["firms.rda"] = b"A 1 4\nV 5 4\n<NUMERIC>\n"
 MISTAKES += [
     Mistake("too few steps", other('"A""B" "A""C"', "FREQ(3,30)", "MOD()", TWO_ROWS,
                                    "<STEPS> 1"), "undecided: work, cell 4 above, 1 steps",
@@ -380,6 +378,66 @@ def early(size: str, turnover: int) -> str:
     """The same with all from Size on a byte earlier."""
     return "N1 %-7s%7d " % (size, turnover)
 
+
+# A kind of refusal each, of those that no mistake above has.
+FRONT = b"argus certificate 2\nmethod MOD\ncells 21\nrelations 18\n"
+NINE = b'<SPECIFYTABLE> "Region"|"Turnover"\n' * 9
+CODES = b"".join(b"%04d\n" % k for k in range(5001))
+
+
+def written(certificate: bytes) -> Dict[str, Optional[bytes]]:
+    """A certificate of the job of BASE, beside its table."""
+    return {"table.cert": certificate, "table.csv": b"Region,Size,Turnover\n"}
+
+
+MISTAKES += [
+    Mistake("unsafe without records", {
+        **deep('<APRIORI> "a.hst",1,","', a=b"S3,a,u\n"),
+        **hierarchy(HIERARCHY + b"@S3\n")
+    }, "refused: apriori table 1 line 1: EmptyUnsafe", ["a.hst, line 1", "S3", "no records"]),
+    Mistake("a lead alone", hierarchy(b"North\n@N1\n@\n"), "refused: hierarchy 1 line 3: NoCode",
+            ["region.hrc, line 3", "no code behind it"]),
+    Mistake("ten levels", hierarchy(b"".join(b"@" * k + b"%d\n" % k for k in range(10))),
+            "refused: hierarchy 1 line 10: TooDeep", ["region.hrc, line 10", "9 times", "nine"]),
+    Mistake("too many codes in a hierarchy", hierarchy(CODES),
+            "refused: hierarchy 1 line 5001: TooMany", ["region.hrc, line 5001", "5,000 codes"]),
+    Mistake("too many codes in a list", {
+        **metadata(b"Size 5 1 9\n", b'Size 5 1 9\n<CODELIST> "size.cdl"\n'), "size.cdl": CODES
+    }, "refused: codelist 2 line 5001: TooMany", ["size.cdl, line 5001", "Size"]),
+    Mistake("another response",
+            job(b'|"Turnover"\n', b'|"Turnover"\n<SPECIFYTABLE> "Size"|"Weight"\n'),
+            "refused: job line 5: OtherResponse", ["it.job, line 5", "Weight", "line 4"]),
+    Mistake("nine tables", job(b'<SPECIFYTABLE> "Region""Size"|"Turnover"\n', NINE),
+            "refused: job line 12: TooMany", ["it.job, line 12", "ninth table"]),
+    Mistake("a keyword first", metadata(b"Region 1 4\n", b"<NUMERIC>\nRegion 1 4\n"),
+            "refused: metadata line 1: BadName", ["firms.rda, line 1", "none yet"]),
+    Mistake("65 variables", {"firms.rda": METADATA + b"".join(b"V%d 1 1\n" % k for k in range(61))},
+            "refused: metadata line 72: TooMany", ["firms.rda, line 72", "variable 65"]),
+    Mistake("a variable of the metadata twice", {"firms.rda": METADATA + b"Region 1 4\n"},
+            "refused: metadata line 12: Twice", ["firms.rda, line 12", "Line 1 has"]),
+    Mistake("a record too long", record(3, RECORDS[2][:-1] + b" " * 984 + b"\n"),
+            "refused: record 3: TooLong", ["firms.asc, line 3 has 1,001 bytes", "1,000"]),
+    Mistake(
+        "too many codes in records", {
+            **other('"A"', "FREQ(3,30)", "MOD()", b"".join(b"%04d   1\n" % k for k in range(
+                1, 5002))), "firms.rda":
+            b"A 1 4\nV 5 4\n<NUMERIC>\n"
+        }, "refused: record 5001: TooManyCodes", ["firms.asc, line 5001: A", "5,000 codes"]),
+    Mistake("a mark before the certificate", written(b"\xef\xbb\xbf" + FRONT),
+            "refused: certificate line 1: Version", ["table.cert, line 1", "byte-order mark"],
+            "check it.job"),
+    Mistake("a line that isn't wanted", written(FRONT + b"hiden 4\n"),
+            "refused: certificate line 5: Shape", ["table.cert, line 5", "hiden 4"],
+            "check it.job"),
+    Mistake("a zero in front", written(FRONT.replace(b"21", b"021")),
+            "refused: certificate line 3: Number", ["table.cert, line 3", "cells 021", "zeros"],
+            "check it.job"),
+    Mistake("a list that doesn't ascend", written(FRONT + b"hidden 5 4\nend\n"),
+            "refused: certificate line 5: Order", ["table.cert, line 5", "ascend"], "check it.job"),
+    Mistake("a certificate without its end", written(FRONT + b"hidden 4 5 7 8\n"),
+            "refused: certificate line 6: NoEnd", ["table.cert, line 6", "cut off"],
+            "check it.job"),
+]
 
 DOUBTS = [
     Mistake("lines without their last byte", sized("N1 50-249      12",

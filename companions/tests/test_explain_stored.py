@@ -141,7 +141,8 @@ class Command(Case):
                 (["nothing.job", "refused: record 1: Short"], 0),
                 (["07.job", "cannot protect cell 99 above"], 0),
                 (["07.job", "cannot protect cell 1 below from row 99", "multipliers 1 7:1"], 0),
-                (["07.asc", "refused: record 1: Short"], 0), ([".", "refused: job line 1: BadLine"], 0),
+                (["07.asc", "refused: record 1: Short"], 0),
+                ([".", "refused: job line 1: BadLine"], 0),
             ):
                 found = self.explain(*words)
                 self.same((found[0], found[2]), (status, ""), "explain %s" % words)
