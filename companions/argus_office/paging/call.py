@@ -6,13 +6,16 @@ import sys
 from typing import List, Optional
 
 from argus_office.paging.files import Job, Metadata, Refused, Stop
+from argus_office.paging.method import method_text, template_in
 from argus_office.paging.release import Release
 from argus_office.paging.texts import visible
 from argus_office.paging.titles import Title, title_of
 from argus_office.paging.whole import MARK, MARK_OF_PUBLIC, Page
 
 USAGE = (
-    "usage: argus page JOB [FILE.html] [--public [--unchecked]] [--title TEXT] [--argus PROGRAM]")
+    "usage: argus page JOB [FILE.html] [--public [--unchecked]] [--title TEXT] [--argus PROGRAM]\n"
+    "       argus page JOB --method [--template FILE] [--argus PROGRAM]\n"
+    "       argus page --method")
 # What a public page's name ends in, where none is given.
 PUBLIC_END = ".public.html"
 
@@ -22,7 +25,8 @@ class Call:
 
     def __init__(self) -> None:
         self.names: List[str] = []
-        self.is_public = self.is_unchecked = False
+        self.is_public = self.is_unchecked = self.is_method = False
+        self.template: Optional[str] = None
         self.title = Title()
         self.program: Optional[str] = None
 
@@ -31,6 +35,14 @@ class Call:
         if len(self.names) > 1:
             return self.names[1]
         return re.sub(r"\.job$", "", self.names[0]) + (PUBLIC_END if self.is_public else ".html")
+
+    def is_whole(self) -> bool:
+        """Whether the words fit together."""
+        if not self.is_method:
+            return bool(self.names) and self.template is None and (
+                self.is_public or not self.is_unchecked)
+        is_page = self.is_public or self.is_unchecked or self.title != Title()
+        return not is_page and len(self.names) <= 1 and (bool(self.names) or not self.template)
 
 
 def call_of(given: List[str]) -> Optional[Call]:
@@ -42,6 +54,10 @@ def call_of(given: List[str]) -> Optional[Call]:
             call.is_public = True
         elif word == "--unchecked":
             call.is_unchecked = True
+        elif word == "--method":
+            call.is_method = True
+        elif word == "--template" and words:
+            call.template = words.pop(0)
         elif word == "--title" and words:
             title = title_of(words.pop(0))
             if title is None:
@@ -53,7 +69,7 @@ def call_of(given: List[str]) -> Optional[Call]:
             return None
         else:
             call.names.append(word)
-    return call if call.names and (call.is_public or not call.is_unchecked) else None
+    return call if call.is_whole() else None
 
 
 def stop_on_taken(out: str, call: Call) -> None:
@@ -114,6 +130,19 @@ def made(call: Call) -> Release:
     return release
 
 
+def print_method(call: Call) -> None:
+    """Prints the method text of a release that argus accepts, or without a job the template of
+    it."""
+    if not call.names:
+        print(template_in(None), end="")
+        return
+    release = Release(call.names[0], False, call.program)
+    if not release.is_accepted:
+        raise Refused("no method text, since argus check %s says: %s" % (
+            call.names[0], release.accepted))
+    print(method_text(release, call.template), end="")
+
+
 def tell(text: str, is_fault: bool = True) -> None:
     """Says a line: a fault or a note, or the name of the page."""
     print("page: %s" % visible(text), file=sys.stderr if is_fault else sys.stdout)
@@ -126,6 +155,9 @@ def main(words: List[str]) -> int:
         print(USAGE, file=sys.stderr)
         return 1
     try:
+        if call.is_method:
+            print_method(call)
+            return 0
         release = made(call)
     except Refused as fault:
         tell(str(fault))

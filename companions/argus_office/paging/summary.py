@@ -4,12 +4,21 @@ from typing import List, NamedTuple, Tuple
 
 from argus_office.paging.amounts import Fact
 from argus_office.paging.part import Part
-from argus_office.paging.release import RULES, WAYS
+from argus_office.paging.release import RULES, WAYS, Release
 from argus_office.paging.tables import Table
 from argus_office.paging.texts import grouped, percent, safe, some
 
 # A number of more characters is set smaller in its tile.
 LONG = 12
+
+
+def hidden_part(release: Release, cells: List[int], table: Table) -> Tuple[int, int]:
+    """How many records those of these cells have that are of a table's lowest codes, and their
+    value in units."""
+    facts, book = release.facts or [], release.book
+    there = [
+        facts[it] for it in cells if table.number in book.within[it] and book.is_lowest(it, table)]
+    return sum(it.records for it in there), sum(it.value for it in there)
 
 
 class Group(NamedTuple):
@@ -132,10 +141,7 @@ class Summary(Part):
     def share(self, cells: List[int], table: Table) -> str:
         """The records of cells of a table's lowest codes, and their share of the total."""
         facts = self.release.facts or []
-        there = [
-            facts[it] for it in cells
-            if table.number in self.book.within[it] and self.book.is_lowest(it, table)]
-        records, value = sum(it.records for it in there), sum(it.value for it in there)
+        records, value = hidden_part(self.release, cells, table)
         return "<td>%s</td><td>%s</td>" % (grouped(records), percent(value, facts[0].value))
 
     def read(self) -> str:
