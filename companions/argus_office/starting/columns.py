@@ -5,7 +5,7 @@ from typing import List, Optional, Tuple
 
 from argus_office.starting.csv_file import Source
 from argus_office.starting.depths import Spanning, spanning
-from argus_office.starting.names import names_for
+from argus_office.starting.names import free_name, names_for
 from argus_office.starting.refusals import Refusal, counted, shown
 from argus_office.starting.words import Usage, Words, levels_of
 
@@ -28,9 +28,10 @@ class Columns:
     def choose_columns(self) -> None:
         """Which column has which part, by the words."""
         words = self.words
-        if "value" not in words.one or not words.tables():
+        self.is_count = "count" in words.flags
+        if not (self.is_count or "value" in words.one) or not words.tables():
             raise self.unsaid()
-        self.value = self.column(words.one["value"])
+        self.value = None if self.is_count else self.column(words.one["value"])
         self.weight = self.column(words.one["weight"]) if "weight" in words.one else None
         self.shapes = [[self.spanned(it) for it in table] for table in words.tables()]
         self.tables = [[it.column for it in table] for table in self.shapes]
@@ -44,8 +45,16 @@ class Columns:
     def unsaid(self) -> Usage:
         """What a newcomer is told who gave no more than the CSV."""
         names = ", ".join(shown(it) for it in self.source.names if it)
-        return Usage("%s has the columns %s. Say which one is summed (--value) and which ones span "
-                     "the table (--by)" % (self.source.name, names))
+        return Usage("%s has the columns %s. Say which one is summed (--value), or that records "
+                     "are counted (--count), and which ones span the table (--by)" %
+                     (self.source.name, names))
+
+    @property
+    def response(self) -> str:
+        """The name of the response in the metadata and in the job."""
+        if self.value is not None:
+            return self.made[self.value]
+        return free_name("count", self.made)
 
     def spanned(self, word: str) -> Spanning:
         """The column and the level of a word of a table."""
@@ -79,7 +88,7 @@ class Columns:
     def check_parts(self) -> None:
         """Refuses a column that is value and weight, or one of them and spans a table."""
         numeric = [it for it in (self.value, self.weight) if it in self.spanning]
-        if numeric or self.value == self.weight:
+        if numeric or (self.value is not None and self.value == self.weight):
             it = numeric[0] if numeric else self.value
             raise Refusal("column %s has two parts in the job" % self.shown(it),
                           "A column is the value, or the weight, or spans tables")

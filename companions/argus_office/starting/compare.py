@@ -8,7 +8,7 @@ numbers.
 import os
 from fractions import Fraction
 from itertools import zip_longest
-from typing import Dict, Iterator, List, NamedTuple, Sequence, Set, Tuple, Union
+from typing import Dict, Iterator, List, NamedTuple, Optional, Sequence, Set, Tuple, Union
 
 from argus_office.reading.metadata import Metadata, Variable
 from argus_office.starting.amounts import Marks
@@ -52,9 +52,12 @@ def place_of(variable: Variable) -> Place:
 
 
 class Wanted(NamedTuple):
-    """Which column of the CSV a variable is, and of a tree by groups the columns of its groups."""
+    """Which column of the CSV a variable is, and of a tree by groups the columns of its groups.
 
-    column: int
+    No column is the response of counts: 1 in each record.
+    """
+
+    column: Optional[int]
     groups: Sequence[int]
 
 
@@ -109,7 +112,7 @@ class Comparison:
         both = list(zip(self.places, self.wanted))
         codes = [(place.slice(), it.column, place)
                  for place, it in both
-                 if "<NUMERIC>" not in place.keywords]
+                 if "<NUMERIC>" not in place.keywords and it.column is not None]
         numbers = [(place, it.column, place.decimals())
                    for place, it in both
                    if "<NUMERIC>" in place.keywords]
@@ -125,22 +128,25 @@ class Comparison:
             for where, column, place in codes:
                 if record[where].strip(BLANKS) != row[column].strip(BLANKS):
                     raise self.differs(line, place, row[column], record[where])
-            for place, column, decimals in numbers:
+            for place, number, decimals in numbers:
                 here = record[place.slice()].strip(BLANKS)
-                if self.mine(here, place,
-                             decimals) != self.theirs(row[column].strip(BLANKS), decimals):
-                    raise self.differs(line, place, row[column], here)
+                there = "1" if number is None else row[number].strip(BLANKS)
+                if self.mine(here, place, decimals) != self.theirs(there, decimals):
+                    raise self.differs(line, place, there, here)
             if with_groups:
                 self.check_groups(line, row, numbers[-1][1])
             count += 1
         return count
 
-    def check_groups(self, line: int, row: Sequence[str], value: int) -> None:
+    def check_groups(self, line: int, row: Sequence[str], value: Optional[int]) -> None:
         """Each record that counts has its code below the groups that the CSV says, up to the total.
         """
         for place, wanted, tree in zip(self.places, self.wanted, self.trees):
+            if not tree or wanted.column is None:
+                continue
             code = row[wanted.column].strip(BLANKS)
-            if tree and code not in self.missing and row[value].strip(BLANKS) not in self.missing:
+            is_kept = value is None or row[value].strip(BLANKS) not in self.missing
+            if code not in self.missing and is_kept:
                 chain = [row[it].strip(BLANKS) for it in wanted.groups]
                 if [tree.get(it) for it in (code, *chain)] != [*chain, ""]:
                     raise self.differs(line, place, " in ".join([code, *chain]), "another tree")

@@ -8,6 +8,7 @@ from typing import Dict, List, NamedTuple, Optional, Sequence, Tuple
 from argus_office.starting.refusals import Refusal, shown
 
 EXAMPLE_RULES = "P(10)|FREQ(3,30)"
+COUNT_RULES = "FREQ(3,30)"
 MILLION, BILLION, TRILLION = 10**6, 10**9, 10**12
 # The numbers of each rule, from the least to the greatest.
 RULES: Dict[str, Sequence[Tuple[int, int]]] = {
@@ -44,7 +45,7 @@ class Plan(NamedTuple):
     response: str
     rules: str
     is_example: bool
-    priors: Sequence[Tuple[int, str]]
+    priors: Sequence["Prior"]
     cost: str
     steps: str
     nodes: str
@@ -56,6 +57,15 @@ class Plan(NamedTuple):
     # For a table, from 1, and a variable of it the last level that the table shows, where it
     # doesn't show all.
     depths: Sequence[Tuple[int, str, int]] = ()
+    is_count: bool = False
+
+
+class Prior(NamedTuple):
+    """An a priori file: its table, its name, and the byte between its fields."""
+
+    table: int
+    file: str
+    separator: str = ","
 
 
 def called(text: str) -> Optional[Tuple[str, List[int]]]:
@@ -162,10 +172,10 @@ def piece(comment: str, command: str) -> List[str]:
 def table_lines(plan: Plan) -> List[str]:
     """A line <SPECIFYTABLE> for each table."""
     lines: List[str] = []
+    what = "the variable that is summed" + (" (1 in each record)" if plan.is_count else "")
     for number, names in enumerate(plan.tables, 1):
         lines += piece(
-            "Table %d: its variables, and after the bar the response, the variable that is summed."
-            % number,
+            "Table %d: its variables, and after the bar the response, %s." % (number, what),
             '<SPECIFYTABLE> %s|"%s"' % ("".join('"%s"' % it for it in names), plan.response)
         )
     return lines
@@ -177,22 +187,28 @@ def rule_lines(plan: Plan) -> List[str]:
         "", '// Which cells are sensitive. Numbers and meaning: docs/MANUAL.md, "Rules in a job".'
     ]
     if plan.is_example:
+        are = "is an example" if plan.is_count else "are examples"
         lines.append(
-            "// P(10)|FREQ(3,30) are examples: which rules an office needs is for the office to "
-            "decide."
+            "// %s %s: which rules an office needs is for the office to decide." %
+            (COUNT_RULES if plan.is_count else EXAMPLE_RULES, are)
         )
     return [*lines, "<SAFETYRULE> " + plan.rules]
 
 
 def prior_lines(plan: Plan) -> List[str]:
     """A line <APRIORI> for each a priori file."""
+    what = "What the office states of the cells of table %d beforehand"
+    if plan.is_count:
+        what = "That counts of table %d with records are at least 1, as readers know, and levels"
     lines: List[str] = []
-    for table, name in plan.priors:
+    for it in plan.priors:
         lines += piece(
-            "What the office states of the cells of table %d beforehand; the byte in quotes "
-            "separates the fields of the file." % table,
-            '<APRIORI> "%s",%d,","' % (name, table)
+            what % it.table + "; the byte in quotes separates the fields of the file.",
+            '<APRIORI> "%s",%d,"%s"' % (it.file, it.table, it.separator)
         )
+    if plan.is_count:
+        lines.insert(2, "// start made it of the records and of n in FREQ: after a change of one "
+                     "of these call start again.")
     return lines
 
 

@@ -1,17 +1,22 @@
 """What start makes of a CSV: variables, trees and numbers, and the files with their texts."""
 
 import os
-from typing import List, Sequence, TextIO, Tuple
+from typing import Dict, List, Optional, Sequence, TextIO, Tuple
 
-from argus_office.starting.amounts import Numbers
+from argus_office.starting.amounts import Marks, Numbers
 from argus_office.starting.columns import Columns
 from argus_office.starting.compare import Comparison, Wanted
+from argus_office.starting.counts import (
+    check_count_rules, counts_of, first_safe, prior_lines_of, separator_for
+)
 from argus_office.starting.csv_file import Records
 from argus_office.starting.depths import Spanning, cells_of
-from argus_office.starting.job import EXAMPLE_RULES, Plan, check_method, check_rules, job_text
+from argus_office.starting.job import (
+    COUNT_RULES, EXAMPLE_RULES, Plan, Prior, called, check_method, check_rules, job_text
+)
 from argus_office.starting.layout import Field, Layout, code_field, number_field
 from argus_office.starting.places import check_places, file_name, output_names, stem_of
-from argus_office.starting.refusals import Difference, shown
+from argus_office.starting.refusals import Difference
 from argus_office.starting.trees import Tree, Variable
 from argus_office.starting.words import Words
 
@@ -27,7 +32,9 @@ class Making(Columns):
         super().__init__(words)
         self.out = words.one.get("out") or os.path.dirname(words.csv) or "."
         self.stem = stem_of(words.csv)
-        self.rules = check_rules(words.one.get("rule", EXAMPLE_RULES), self.weight is not None)
+        example = COUNT_RULES if self.is_count else EXAMPLE_RULES
+        self.rules = check_rules(words.one.get("rule", example), self.weight is not None)
+        self.rules = check_count_rules(self.rules) if self.is_count else self.rules
         self.method = check_method(words.one.get("method", "MOD()"), "contributors" in words.flags)
         self.outputs = output_names(self.stem, len(self.tables))
         self.inputs = [words.csv, *self.tree_files.values(), *(path for _, path in self.priors())]
@@ -39,11 +46,12 @@ class Making(Columns):
     def read(self) -> None:
         """Reads the records, and works out numbers, codes, trees and the number of cells."""
         groups = {it for chain in self.chains.values() for it in chain}
-        self.used = {*self.spanning, *groups, self.value}
-        if self.weight is not None:
-            self.used.add(self.weight)
+        self.used = {*self.spanning, *groups, *self.numeric()}
         self.records = Records(self.source, sorted(self.used))
-        self.read_numbers()
+        if self.value is None:
+            self.take_ones()
+        else:
+            self.read_numbers(self.value)
         self.kept = [it is not None for it in self.units]
         self.variables = [self.variable(it) for it in self.spanning]
         self.trees = [self.tree(it) for it in self.variables]
@@ -53,6 +61,18 @@ class Making(Columns):
                 "the tables have {:,} cells, and argus takes {:,}".format(self.cells, MOST_CELLS),
                 "Take fewer variables in a table, or columns with fewer codes"
             )
+        if self.is_count:
+            self.count_cells()
+
+    def numeric(self) -> List[int]:
+        """The columns of numbers: the weight and the value, where there are such."""
+        return [it for it in (self.weight, self.value) if it is not None]
+
+    def count_cells(self) -> None:
+        """Counts the records of each cell, for the a priori files."""
+        tables = [self.boxes(it) for it in self.shapes]
+        self.counts = counts_of(self.variables, self.trees, tables)
+        self.separator = separator_for(self.counts)
 
     def variable(self, column: int) -> Variable:
         """A column that spans a table, with its codes."""
@@ -63,19 +83,24 @@ class Making(Columns):
         """Which variables span a table, and the last level that it shows of each."""
         return [(self.spanning.index(it.column), it.last()) for it in table]
 
-    def read_numbers(self) -> None:
+    def take_ones(self) -> None:
+        """Counts: the response is 1 in each record."""
+        self.marks = Marks(".", None)
+        self.units: List[Optional[int]] = [1 for _ in self.records.lines]
+        self.decimals = 0
+
+    def read_numbers(self, value: int) -> None:
         """The value and the weight in units of their last decimals."""
-        columns = [self.value] + ([self.weight] if self.weight is not None else [])
         numbers = Numbers(
-            self.source, self.records, columns, self.missing, self.words.one.get("decimal")
+            self.source, self.records, self.numeric(), self.missing, self.words.one.get("decimal")
         )
         self.marks = numbers.marks
-        self.units, self.decimals = numbers.amounts(self.value, VALUE_DECIMALS, VALUE_LIMIT)
+        self.units, self.decimals = numbers.amounts(value, VALUE_DECIMALS, VALUE_LIMIT)
         if all(it is None for it in self.units):
             raise self.source.refuse(
                 "no record has a number",
                 "Take another column as --value",
-                column=shown(self.source.names[self.value])
+                column=self.shown(value)
             )
         if self.weight is not None:
             self.weights, self.weight_decimals = numbers.amounts(
@@ -113,7 +138,33 @@ class Making(Columns):
         anew.
         """
         own = [self.stem + it for it in (".asc", ".rda", ".job")]
+        own += self.count_names() if self.is_count else []
         return own + [self.tree_name(it) for it in self.chains]
+
+    def count_names(self) -> List[str]:
+        """The names of the a priori files of counts."""
+        several = len(self.tables) > 1
+        names = ("%s_counts%s.hst" % (self.stem, k + 1 if several else "")
+                 for k in range(len(self.tables)))
+        return list(names)
+
+    def count_texts(self) -> Dict[str, str]:
+        """The a priori files of counts."""
+        how = self.separator, first_safe(self.rules), self.is_rounded()
+        texts = ["".join(prior_lines_of(it, *how)) for it in self.counts]
+        return dict(zip(self.count_names(), texts))
+
+    def is_rounded(self) -> bool:
+        """Whether the job rounds."""
+        return (called(self.method) or ("",))[0] == "RND"
+
+    def priors_of_job(self) -> List[Prior]:
+        """The a priori files as the job names them."""
+        if self.is_count:
+            names = enumerate(self.count_names(), 1)
+            return [Prior(table, name, self.separator) for table, name in names]
+        paths = [(table, os.path.relpath(path, self.out)) for table, path in self.priors()]
+        return [Prior(table, file_name(path)) for table, path in paths]
 
     def fields(self) -> List[Field]:
         """The variables of the metadata: those that span tables in the order of the CSV, the
@@ -127,22 +178,21 @@ class Making(Columns):
         if self.weight is not None:
             name, decimals = made[self.weight], self.weight_decimals
             found.append(number_field(name, self.weights, decimals, texts[self.weight], True))
-        name, decimals = made[self.value], self.decimals
-        return [*found, number_field(name, self.units, decimals, texts[self.value], False)]
+        spelled = ["1"] * len(self.units) if self.value is None else texts[self.value]
+        return [*found, number_field(self.response, self.units, self.decimals, spelled, False)]
 
     def plan(self) -> Plan:
         """What the job says."""
         one, names, stem = self.words.one, self.made, self.stem
-        priors = [(table, os.path.relpath(path, self.out)) for table, path in self.priors()]
         return Plan(
             csv=self.source.name,
             microdata=stem + ".asc",
             metadata=stem + ".rda",
             tables=[[names[it] for it in table] for table in self.tables],
-            response=names[self.value],
+            response=self.response,
             rules=self.rules,
             is_example="rule" not in one,
-            priors=[(table, file_name(path)) for table, path in priors],
+            priors=self.priors_of_job(),
             cost=one.get("cost", "VALUE").upper(),
             steps=one.get("steps", ""),
             nodes=one.get("nodes", ""),
@@ -152,6 +202,7 @@ class Making(Columns):
             contributors=stem + ".extra",
             is_guarded="contributors" in self.words.flags,
             depths=[(number, names[it.column], it.last()) for number, it in self.cut()],
+            is_count=self.is_count,
         )
 
     def cut(self) -> List[Tuple[int, Spanning]]:
@@ -166,6 +217,7 @@ class Making(Columns):
         layout = Layout(self.fields(), self.source.name)
         trees = {it.file: it.text for it in self.trees if it.text is not None}
         texts = {self.stem + ".rda": layout.metadata(), **trees}
+        texts.update(self.count_texts() if self.is_count else {})
         microdata, job = self.stem + ".asc", self.stem + ".job"
         with new_file(folder, microdata, "latin-1") as file:
             file.writelines(layout.records())
@@ -183,7 +235,8 @@ class Making(Columns):
     def compare(self, folder: str) -> None:
         """Compares the files with the CSV before they are put in their places."""
         wanted = [Wanted(it, self.chains.get(it, ())) for it in self.spanning]
-        wanted += [Wanted(it, ()) for it in (self.weight, self.value) if it is not None]
+        wanted += [Wanted(it, ()) for it in self.numeric()]
+        wanted += [Wanted(None, ())] if self.is_count else []
         count = Comparison(self.source, folder, self.stem, wanted, self.missing, self.marks).run()
         if count != len(self.records.lines):
             raise Difference(

@@ -28,9 +28,13 @@ def names_for(columns: Sequence[str]) -> List[str]:
     made = ["" if plain(it) != it else it for it in columns]
     for k, column in enumerate(columns):
         if not made[k]:
-            stem = plain(column, LONGEST - 6) or "column%d" % (k + 1)
-            name, number = stem, 2
-            while name in made:
-                name, number = "%s_%d" % (stem, number), number + 1
-            made[k] = name
+            made[k] = free_name(plain(column, LONGEST - 6) or "column%d" % (k + 1), made)
     return made
+
+
+def free_name(wanted: str, taken: Sequence[str]) -> str:
+    """A name that none of those has: the one that is wanted, or with a number behind it."""
+    name, number = wanted, 2
+    while name in taken:
+        name, number = "%s_%d" % (wanted, number), number + 1
+    return name

@@ -68,11 +68,11 @@ def left_out(
     return ["Left out: " + "; ".join(parts) + "."] if parts else []
 
 
-def how_written(source: Source, marks: Marks) -> str:
-    """How the CSV was read."""
+def how_written(source: Source, marks: Optional[Marks]) -> str:
+    """How the CSV was read; without marks, none of its columns was read as numbers."""
     text = SEPARATORS.get(source.separator, shown(source.separator)) + " between columns"
-    text += ", decimal " + PLAIN_MARKS[marks.decimal]
-    if marks.thousands:
+    text += ", decimal " + PLAIN_MARKS[marks.decimal] if marks else ""
+    if marks and marks.thousands:
         text += ", %s between thousands" % PLAIN_MARKS[marks.thousands]
     return text + (", byte order mark" if source.marked else "")
 

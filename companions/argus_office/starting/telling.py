@@ -3,6 +3,7 @@
 from typing import List, Sequence
 
 from argus_office.starting.amounts import written
+from argus_office.starting.counts import first_safe
 from argus_office.starting.depths import depth_line
 from argus_office.starting.making import Making
 from argus_office.starting.refusals import counted
@@ -18,9 +19,11 @@ def lines_of(making: Making, files: Sequence[str]) -> List[str]:
     order = ", ".join([*own, *(it for it in files if it not in own)])
     lines.append("Written: %s. Every record was read back and compared with the CSV." % order)
     if "rule" not in making.words.one:
-        lines.append("The rules %s are examples. Which ones an office needs is for the office to "
-                     "decide:" % making.rules)
-        lines.append("give them by --rule, or edit <SAFETYRULE> in %s.job." % making.stem)
+        are, it = ("rule %s is an example", "it") if making.is_count else (
+            "rules %s are examples", "them")
+        lines.append("The %s. Which ones an office needs is for the office to decide:" %
+                     (are % making.rules))
+        lines.append("give %s by --rule, or edit <SAFETYRULE> in %s.job." % (it, making.stem))
     kept = sum(making.kept)
     counts = count_of(kept, "record"), len(making.kept) - kept, count_of(making.cells, "cell")
     lines.append("Compare codes and total with what the office knows. argus should find %s, "
@@ -31,7 +34,8 @@ def lines_of(making: Making, files: Sequence[str]) -> List[str]:
 def columns_of(making: Making) -> List[str]:
     """How the CSV was read, and what its columns have."""
     made, source = making.made, making.source
-    read = counted(len(making.kept), "record"), how_written(source, making.marks)
+    marks = None if making.is_count else making.marks
+    read = counted(len(making.kept), "record"), how_written(source, marks)
     lines = ["%s: %s; %s" % (source.name, *read)]
     for variable, tree in zip(making.variables, making.trees):
         lines.append("  %s: %s" % (made[variable.column], code_line(variable, tree)))
@@ -41,15 +45,30 @@ def columns_of(making: Making) -> List[str]:
     if making.weight is not None:
         weights = number_line(making.weights, making.weight_decimals)
         lines.append("  %s: %s" % (made[making.weight], weights))
+    if making.is_count:
+        return lines + counts_lines(making)
     values = number_line(making.units, making.decimals) + weighted(making)
-    return [*lines, "  %s: %s" % (made[making.value], values)]
+    return [*lines, "  %s: %s" % (making.response, values)]
+
+
+def counts_lines(making: Making) -> List[str]:
+    """What start says of counts: how many are sensitive, and what it states of them."""
+    safe, lines = first_safe(making.rules), []
+    for number, counts in enumerate(making.counts, 1):
+        few = sum(it.records < safe for it in counts.values())
+        lines.append("  %s: table %d has records in %s, of which %s below %d" % (
+            making.response, number, counted(len(counts), "cell"),
+            counted(few, "has a count", "have counts"), safe
+        ))
+    return lines
 
 
 def left_of(making: Making) -> List[str]:
     """What isn't in the files as the CSV has it."""
     source, used = making.source, making.used
     skipped = len(making.kept) - sum(making.kept)
-    lines = left_out(source, making.records, skipped, source.names[making.value], used)
+    name = making.response if making.value is None else source.names[making.value]
+    lines = left_out(source, making.records, skipped, name, used)
     lines += renamed(source, making.made, used)
     return lines + blanks_dropped(source, making.records, sorted(used))
 

@@ -29,6 +29,18 @@ class Tree(NamedTuple):
     # The hierarchy file as it is named, and its text where start has to write it.
     file: str = ""
     text: Optional[str] = None
+    # The parent of each code that isn't right below the total, where no levels say it.
+    parents: Optional[Dict[str, str]] = None
+
+    def chain(self, code: str) -> List[str]:
+        """A code and those above it without the total, from the one right below the total on."""
+        if self.levels:
+            ends = [sum(self.levels[: k + 1]) for k in range(len(self.levels))]
+            return [*(code[:end] for end in ends if end < len(code)), code]
+        found = [code]
+        while self.parents and self.parents.get(found[0]):
+            found.insert(0, self.parents[found[0]])
+        return found
 
     @property
     def codes(self) -> int:
@@ -195,7 +207,8 @@ class Variable:
             self.with_missing(parents),
             lead=lead,
             file=there if is_fit else "",
-            text=None if is_fit else text
+            text=None if is_fit else text,
+            parents=parents
         )
 
     def with_missing(self, parents: Dict[str, str]) -> List[int]:
@@ -240,7 +253,8 @@ class Variable:
                 "Write the hierarchy file by hand",
                 column=self.shown
             )
-        return Tree(self.with_missing(parents), lead=lead, text=tree_text(parents, lead))
+        text = tree_text(parents, lead)
+        return Tree(self.with_missing(parents), lead=lead, text=text, parents=parents)
 
     def is_missing(self, row: int) -> bool:
         """Whether a record doesn't count, or has no code."""

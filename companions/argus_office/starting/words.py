@@ -15,7 +15,7 @@ ONE = (
     "nodes", "out"
 )
 MANY = ("by", "table", "levels", "tree", "lead", "parent", "total", "missing", "apriori")
-FLAGS = ("contributors", "force")
+FLAGS = ("contributors", "count", "force")
 ENCODINGS = {
     "utf-8": "utf-8", "utf8": "utf-8",
     "latin-1": "latin-1", "latin1": "latin-1", "iso-8859-1": "latin-1",
@@ -69,6 +69,7 @@ class Words:
         """Refuses what can be seen without the CSV."""
         if self.many["by"] and self.many["table"]:
             raise Usage("--by is for one table, --table for several: give one of the two kinds")
+        self.check_count()
         separator = self.one.get("separator")
         if separator is not None:
             separator = {"tab": "\t", "\\t": "\t", "comma": ",", "semicolon":
@@ -94,6 +95,19 @@ class Words:
                     "--missing takes a word without double quotes; an empty field means no answer "
                     "anyway"
                 )
+
+    def check_count(self) -> None:
+        """Refuses words that don't go with counts."""
+        if "count" not in self.flags:
+            return
+        if "value" in self.one:
+            raise Usage("--count counts records, --value adds a column up: give one of the two")
+        if "weight" in self.one:
+            raise Usage("--count counts records, and with --weight they would be estimates: leave "
+                        "one out")
+        if self.many["apriori"]:
+            raise Usage("--count writes a priori files of its own: add your lines to these, and "
+                        "leave --apriori out")
 
     def encoding(self) -> str:
         """The encoding by the one name that start has for it."""
