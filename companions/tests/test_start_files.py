@@ -42,6 +42,19 @@ class Spelled(StartCase):
             it_asc="x         1.00 1234.5\n\u00fcber ?   2.25     NA\ny     B 1 1.50 1000.0\n",
         )
 
+    def test_rounding(self) -> None:
+        """Numbers and weights with more decimals than are wanted; what is halfway goes up."""
+        self.check(
+            "a;v;w\nx;1,2349999999999;1,5\nx;0,125;2,33333\ny;0,135;1\ny;7;1\n",
+            "--value v --by a --weight w --round v=2 --round w=1",
+            it_asc="x 1.5 1.23\nx 2.3 0.13\ny 1.0 0.14\ny 1.0 7.00\n",
+        )
+        answer = start("it.csv", "--value", "v", "--by", "a", "--round", "v=2", "--force")
+        # 1.23 - 1.2349999999999 and twice 0.005
+        line = "  v: rounded to 2 decimals, by which 3 numbers changed, together by " \
+            "+0.0050000000001"
+        self.wants(line in answer.out.split("\n"), answer.out)
+
     def test_groups(self) -> None:
         """A tree by columns of groups, with a lead that no code begins with."""
         self.check(

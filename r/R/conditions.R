@@ -60,7 +60,7 @@ split_remedy <- function(text) {
 
 # A remedy of `start` in words of argus_job.
 in_r_words <- function(text) {
-  text <- sub("^Round it in the program that wrote the CSV", "Give round = 2, or another number of decimals up to 9", text)
+  text <- sub("^Add --round [^=]+=2, or as many decimals as these numbers need", "Give round = 2, or another number of decimals up to 9", text)
   text <- sub("out of the CSV", "out of the data frame", text, fixed = TRUE)
   names <- c(by = "tables", table = "tables", rule = "rules", out = "folder")
   for (it in names(names)) text <- gsub(paste0("--", it, "\\b"), paste0(names[[it]], " ="), text)

@@ -5,6 +5,8 @@ the point.
 """
 
 import re
+from collections import Counter
+from fractions import Fraction
 from typing import Dict, List, NamedTuple, Optional, Sequence, Set, Tuple
 
 from argus_office.starting.csv_file import Records, Source
@@ -14,7 +16,11 @@ from argus_office.starting.refusals import Refusal, shown
 # apostrophes.
 THOUSANDS = (",", ".", " ", "\u00a0", "\u202f", "\u2009", "'", "\u2019")
 LONGEST = 60
+# How many lines with the same fault a message names.
+FEW = 5
 GREATEST_EXPONENT = 40
+# What stands before a number that is negative, an opening bracket too.
+NEGATIVE = "-\u2212("
 DIGITS = str.maketrans("123456789", "000000000")
 
 
@@ -70,6 +76,34 @@ def shape(text: str) -> str:
     at the front.
     """
     return ("z" if text[0] == "0" else "") + text.translate(DIGITS)
+
+
+def rounded(number: Number, decimals: int) -> Number:
+    """The number with no more decimals than these; what is exactly between two goes up."""
+    digits, behind = number
+    if behind <= decimals:
+        return number
+    step = 10 ** (behind - decimals)
+    return Number((2 * digits + step) // (2 * step), decimals)
+
+
+def is_negative(text: str) -> bool:
+    """Whether a text is a number with a minus before it, or in brackets."""
+    bare = text[1:].rstrip(")").strip(" ")
+    return text[:1] in NEGATIVE and any(is_spelled(bare, it) for it in ALL_MARKS)
+
+
+def unit_of(text: str) -> Tuple[str, str]:
+    """The number and the unit of a text such as `1.127,84 \u20ac`; empty where it is none."""
+    digits = [k for k, it in enumerate(text) if it in "0123456789"]
+    if not digits or len(text) > LONGEST:
+        return "", ""
+    before, number = text[: digits[0]].lstrip("+" + NEGATIVE), text[digits[0]: digits[-1] + 1]
+    behind = text[digits[-1] + 1:].strip()
+    is_apart = not before or not before[-1].isalnum()
+    unit = " ".join(it for it in (before.strip(), behind) if it)
+    is_unit = is_apart and any(is_spelled(number, it) for it in ALL_MARKS)
+    return (number, unit) if unit and is_unit else ("", "")
 
 
 class Numbers:
@@ -154,11 +188,8 @@ class Numbers:
         self, row: int, column: int, text: str, before: Sequence[Tuple[int, int, str]]
     ) -> Refusal:
         """What is wrong with the first field that is no number by the marks of those before it."""
-        if text[:1] in "-\u2212(" and any(is_spelled(text[1:].rstrip(")"), it) for it in ALL_MARKS):
-            return self.refuse(
-                row, column, "%s is negative, and argus takes no negative values" % shown(text),
-                "Correct it, or take such records out of the CSV and of the table"
-            )
+        if is_negative(text):
+            return self.negative(row, column, text)
         at_odds = [it for it in self.left if is_spelled(text, it)]
         if at_odds:
             earlier = next(
@@ -173,19 +204,49 @@ class Numbers:
             )
         if text == "":
             return self.refuse(row, column, "the field is empty", "Give the number")
+        number, unit = unit_of(text)
+        if unit:
+            what = "%s isn't a number: it has the unit %s" % (shown(text), shown(unit))
+            do = "Take the unit out, so that %s is left: in a spreadsheet, by giving the column " \
+                "the format of plain numbers before saving" % shown(number)
+            return self.refuse(row, column, what, do)
         do = "Correct it; if it means that there is no value, add --missing %s" % shown(text)
         return self.refuse(row, column, "%s isn't a number" % shown(text), do)
 
-    def amounts(self, column: int, most_decimals: int,
-                limit: int) -> Tuple[List[Optional[int]], int]:
+    def negative(self, row: int, column: int, text: str) -> Refusal:
+        """All negative numbers of a column at once: how many there are, and where the first ones
+        are.
+        """
+        known: Dict[str, bool] = {it: False for it in self.missing}
+        lines = []
+        for k, raw in enumerate(self.records.columns[column]):
+            if raw not in known:
+                known[raw] = is_negative(self.letters(column, k, raw))
+            if known[raw]:
+                lines.append(str(self.records.lines[k]))
+        what = "%s is negative, and argus takes no negative values" % shown(text)
+        if len(lines) > 1:
+            more = ", .." if len(lines) > FEW else ""
+            what += " (%s in this column, in the lines %s%s)" % (
+                "{:,}".format(len(lines)), ", ".join(lines[:FEW]), more
+            )
+        return self.refuse(
+            row, column, what, "Correct mistakes; add a correction to the record that it corrects; "
+            "and of a balance, such as a profit, make two columns, one of gains and one of losses, "
+            "each with a table of its own"
+        )
+
+    def amounts(
+        self, column: int, most_decimals: int, limit: int, wanted: Optional[int]
+    ) -> Tuple[List[Optional[int]], int]:
         """The numbers of a column in units of its last decimal, none where missing, and how many
-        decimals that are.
+        decimals that are; rounded to those that are wanted.
         """
         known: Dict[str, Optional[Number]] = {it: None for it in self.missing}
         found: List[Optional[Number]] = []
         for row, text in enumerate(self.records.columns[column]):
             if text not in known:
-                known[text] = self.within(row, column, text, most_decimals)
+                known[text] = self.within(row, column, text, most_decimals, wanted)
             found.append(known[text])
         decimals = max((it.behind for it in known.values() if it), default=0)
         units = [it if it is None else it.digits * 10 ** (decimals - it.behind) for it in found]
@@ -203,9 +264,11 @@ class Numbers:
         """A field, fit for one line of a terminal."""
         return shown(self.letters(column, row, self.records.columns[column][row]))
 
-    def within(self, row: int, column: int, text: str, most_decimals: int) -> Number:
-        """A number with no more decimals than argus takes; zeros at the end that are too many are
-        dropped.
+    def within(
+        self, row: int, column: int, text: str, most_decimals: int, wanted: Optional[int]
+    ) -> Number:
+        """A number with no more decimals than argus takes, rounded where that is wanted; zeros at
+        the end that are too many are dropped.
         """
         number = number_of(self.letters(column, row, text), self.marks)
         if number is None:
@@ -213,15 +276,42 @@ class Numbers:
                 row, column, "%s has more digits than argus takes" % self.shown_at(row, column),
                 "Correct or round it"
             )
-        digits, behind = number
+        digits, behind = number if wanted is None else rounded(number, wanted)
         while behind > most_decimals and digits % 10 == 0:
             digits, behind = digits // 10, behind - 1
         if behind > most_decimals:
             what = "%s has %d decimals, and argus takes %d" % (
                 self.shown_at(row, column), behind, most_decimals
             )
-            raise self.refuse(row, column, what, "Round it in the program that wrote the CSV")
+            name = shown(self.source.names[column])
+            do = "Add --round %s=2, or as many decimals as these numbers need" % name
+            raise self.refuse(row, column, what, do)
         return Number(digits, behind)
+
+    def change(self, column: int, wanted: int) -> Tuple[int, Fraction]:
+        """How many numbers of a column differ from what they are rounded to, and by how much all of
+        these together.
+        """
+        counts = Counter(self.records.columns[column])
+        changed, change = 0, Fraction(0)
+        for text, count in counts.items():
+            number = None if text in self.missing else number_of(
+                self.letters(column, 0, text), self.marks)
+            if number and rounded(number, wanted) != number:
+                near = rounded(number, wanted)
+                more = Fraction(near.digits, 10**near.behind)
+                more -= Fraction(number.digits, 10**number.behind)
+                changed, change = changed + count * (more != 0), change + count * more
+        return changed, change
+
+
+def exactly(number: Fraction) -> str:
+    """A number with a sign, whose denominator is a power of ten or divides one."""
+    decimals = 0
+    while (number * 10**decimals).denominator > 1:
+        decimals += 1
+    units = abs(int(number * 10**decimals))
+    return ("-" if number < 0 else "+" if number else "") + written(units, decimals)
 
 
 def written(units: int, decimals: int) -> str:

@@ -7,7 +7,7 @@ from argus_office.starting.csv_file import Source
 from argus_office.starting.depths import Spanning, spanning
 from argus_office.starting.names import free_name, names_for
 from argus_office.starting.refusals import Refusal, counted, shown
-from argus_office.starting.words import Usage, Words, levels_of
+from argus_office.starting.words import Usage, Words, decimals_of, levels_of
 
 
 class Columns:
@@ -70,6 +70,7 @@ class Columns:
         totals = [(name, word.strip(" \t")) for name, word in words.pairs("total")]
         self.totals = {column(name): self.source.bytes_of(word) for name, word in totals}
         self.chains = {it: self.chain(it) for it in self.spanning if it in self.parents}
+        self.rounds = {column(name): decimals_of(it, name) for name, it in words.pairs("round")}
 
     def check_tables(self) -> None:
         """Refuses tables that argus doesn't take: 8 tables, 6 variables in one and 8 in all, none
@@ -99,6 +100,9 @@ class Columns:
 
     def check_trees(self) -> None:
         """Refuses words on trees of a column that has no tree, or that has another one already."""
+        for it in (it for it in self.rounds if it not in (self.value, self.weight)):
+            raise Refusal("--round %s=.., and this is neither the value nor the weight" %
+                          self.shown(it), "Leave it out")
         named = [*self.levels, *self.tree_files, *self.totals, *self.leads]
         for it in (it for it in named if it not in self.spanning):
             raise Refusal("column %s spans no table" % self.shown(it), "Name it by --by or --table,"

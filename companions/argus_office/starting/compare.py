@@ -8,6 +8,7 @@ numbers.
 import os
 from fractions import Fraction
 from itertools import zip_longest
+from math import floor
 from typing import Dict, Iterator, List, NamedTuple, Optional, Sequence, Set, Tuple, Union
 
 from argus_office.reading.metadata import Metadata, Variable
@@ -59,6 +60,8 @@ class Wanted(NamedTuple):
 
     column: Optional[int]
     groups: Sequence[int]
+    # To how many decimals its numbers are rounded, where they are.
+    decimals: Optional[int] = None
 
 
 class Comparison:
@@ -113,7 +116,7 @@ class Comparison:
         codes = [(place.slice(), it.column, place)
                  for place, it in both
                  if "<NUMERIC>" not in place.keywords and it.column is not None]
-        numbers = [(place, it.column, place.decimals())
+        numbers = [(place, it, place.decimals())
                    for place, it in both
                    if "<NUMERIC>" in place.keywords]
         with_groups = any(self.trees)
@@ -130,11 +133,11 @@ class Comparison:
                     raise self.differs(line, place, row[column], record[where])
             for place, number, decimals in numbers:
                 here = record[place.slice()].strip(BLANKS)
-                there = "1" if number is None else row[number].strip(BLANKS)
-                if self.mine(here, place, decimals) != self.theirs(there, decimals):
+                there = "1" if number.column is None else row[number.column].strip(BLANKS)
+                if self.mine(here, place, decimals) != self.theirs(there, decimals, number):
                     raise self.differs(line, place, there, here)
             if with_groups:
-                self.check_groups(line, row, numbers[-1][1])
+                self.check_groups(line, row, self.wanted[-1].column)
             count += 1
         return count
 
@@ -160,7 +163,7 @@ class Comparison:
             return Fraction(text) * power(decimals)
         return int(whole + rest)
 
-    def theirs(self, text: str, decimals: int) -> Union[int, Fraction, None]:
+    def theirs(self, text: str, decimals: int, wanted: Wanted) -> Union[int, Fraction, None]:
         """The number of a field of the CSV, in units; none where there is no answer."""
         if text in self.missing:
             return None
@@ -170,7 +173,11 @@ class Comparison:
         whole, _, rest = text.partition(marks.decimal)
         if whole.isdigit() and (rest.isdigit() or not rest) and len(rest) <= decimals:
             return int(whole + rest.ljust(decimals, "0"))
-        return Fraction(text.replace(marks.decimal, ".").rstrip(".")) * power(decimals)
+        number = Fraction(text.replace(marks.decimal, ".").rstrip("."))
+        if wanted.decimals is not None:
+            scale = power(wanted.decimals)
+            number = Fraction(floor(number * scale + Fraction(1, 2)), scale)
+        return number * power(decimals)
 
 
 def power(decimals: int) -> int:

@@ -95,7 +95,10 @@ class Making(Columns):
             self.source, self.records, self.numeric(), self.missing, self.words.one.get("decimal")
         )
         self.marks = numbers.marks
-        self.units, self.decimals = numbers.amounts(value, VALUE_DECIMALS, VALUE_LIMIT)
+        self.units, self.decimals = numbers.amounts(
+            value, VALUE_DECIMALS, VALUE_LIMIT, self.rounds.get(value)
+        )
+        self.changes = {it: numbers.change(it, wanted) for it, wanted in self.rounds.items()}
         if all(it is None for it in self.units):
             raise self.source.refuse(
                 "no record has a number",
@@ -104,7 +107,7 @@ class Making(Columns):
             )
         if self.weight is not None:
             self.weights, self.weight_decimals = numbers.amounts(
-                self.weight, WEIGHT_DECIMALS, WEIGHT_LIMIT
+                self.weight, WEIGHT_DECIMALS, WEIGHT_LIMIT, self.rounds.get(self.weight)
             )
             for row, (unit, weight) in enumerate(zip(self.units, self.weights)):
                 if unit is not None and (weight is None or weight < 10**self.weight_decimals):
@@ -235,7 +238,7 @@ class Making(Columns):
     def compare(self, folder: str) -> None:
         """Compares the files with the CSV before they are put in their places."""
         wanted = [Wanted(it, self.chains.get(it, ())) for it in self.spanning]
-        wanted += [Wanted(it, ()) for it in self.numeric()]
+        wanted += [Wanted(it, (), self.rounds.get(it)) for it in self.numeric()]
         wanted += [Wanted(None, ())] if self.is_count else []
         count = Comparison(self.source, folder, self.stem, wanted, self.missing, self.marks).run()
         if count != len(self.records.lines):

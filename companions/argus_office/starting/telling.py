@@ -2,7 +2,7 @@
 
 from typing import List, Sequence
 
-from argus_office.starting.amounts import written
+from argus_office.starting.amounts import exactly, written
 from argus_office.starting.counts import first_safe
 from argus_office.starting.depths import depth_line
 from argus_office.starting.making import Making
@@ -47,6 +47,11 @@ def columns_of(making: Making) -> List[str]:
         lines.append("  %s: %s" % (made[making.weight], weights))
     if making.is_count:
         return lines + counts_lines(making)
+    for column, (number, change) in making.changes.items():
+        lines.append("  %s: rounded to %s, by which %s changed, together by %s" % (
+            made[column], counted(making.rounds[column], "decimal"), counted(number, "number"),
+            exactly(change)
+        ))
     values = number_line(making.units, making.decimals) + weighted(making)
     return [*lines, "  %s: %s" % (making.response, values)]
 

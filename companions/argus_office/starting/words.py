@@ -14,7 +14,9 @@ ONE = (
     "value", "weight", "separator", "decimal", "encoding", "rule", "method", "cost", "steps",
     "nodes", "out"
 )
-MANY = ("by", "table", "levels", "tree", "lead", "parent", "total", "missing", "apriori")
+MANY = (
+    "by", "table", "levels", "tree", "lead", "parent", "total", "missing", "apriori", "round"
+)
 FLAGS = ("contributors", "count", "force")
 ENCODINGS = {
     "utf-8": "utf-8", "utf8": "utf-8",
@@ -117,8 +119,8 @@ class Words:
         """The words COLUMN=VALUE of a name, each column once."""
         found: List[Tuple[str, str]] = []
         for word in self.many[name]:
-            column, equals, value = word.rpartition("="
-                                                    ) if name == "levels" else word.partition("=")
+            is_number = name in ("levels", "round")
+            column, equals, value = word.rpartition("=") if is_number else word.partition("=")
             if not equals or not column or not value:
                 raise Usage("--%s takes two words with = between them: %s" % (name, shown(word)))
             if column in [it for it, _ in found]:
@@ -136,9 +138,19 @@ class Words:
         """Every column that the words name, each with the names that it may have."""
         found = [spellings(it) for table in self.tables() for it in table]
         found += [(self.one[it],) for it in ("value", "weight") if it in self.one]
-        for name in ("levels", "tree", "parent", "total"):
+        for name in ("levels", "tree", "parent", "total", "round"):
             found += [(column,) for column, _ in self.pairs(name)]
         return found
+
+
+def decimals_of(text: str, column: str) -> int:
+    """The decimals that a column is rounded to."""
+    if len(text) != 1 or text not in "0123456789":
+        raise Refusal(
+            "--round %s=%s isn't a number of decimals" % (shown(column), shown(text)),
+            "Give one from 0 to 9, as --round %s=2" % shown(column)
+        )
+    return int(text)
 
 
 def levels_of(text: str, column: str) -> Tuple[int, ...]:
