@@ -70,6 +70,7 @@ class Columns:
         totals = [(name, word.strip(" \t")) for name, word in words.pairs("total")]
         self.totals = {column(name): self.source.bytes_of(word) for name, word in totals}
         self.chains = {it: self.chain(it) for it in self.spanning if it in self.parents}
+        self.orders = {column(name): path for name, path in words.pairs("order")}
         self.rounds = {column(name): decimals_of(it, name) for name, it in words.pairs("round")}
 
     def check_tables(self) -> None:
@@ -103,14 +104,15 @@ class Columns:
         for it in (it for it in self.rounds if it not in (self.value, self.weight)):
             raise Refusal("--round %s=.., and this is neither the value nor the weight" %
                           self.shown(it), "Leave it out")
-        named = [*self.levels, *self.tree_files, *self.totals, *self.leads]
+        named = [*self.levels, *self.tree_files, *self.totals, *self.leads, *self.orders]
         for it in (it for it in named if it not in self.spanning):
             raise Refusal("column %s spans no table" % self.shown(it), "Name it by --by or --table,"
-                          " or leave its --levels, --tree, --lead or --total out")
-        several = [*self.levels, *self.tree_files, *self.parents]
+                          " or leave its --levels, --tree, --lead, --order or --total out")
+        several = [*self.levels, *self.tree_files, *self.parents, *self.orders]
         for it in (it for it in self.spanning if several.count(it) > 1):
-            what = "column %s has more than one of --levels, --tree and --parent" % self.shown(it)
-            raise Refusal(what, "Keep one")
+            what = "column %s has more than one of --levels, --tree, --parent and --order"
+            raise Refusal(what % self.shown(it), "Keep one: codes with levels have the order of "
+                          "their tree")
         used = {*self.spanning, *(it for chain in self.chains.values() for it in chain)}
         for it in (it for it in self.parents if it not in used):
             raise Refusal("column %s spans no table" % self.shown(it),

@@ -50,6 +50,8 @@ def code_field(
     lines = ["<RECODEABLE>"]
     if tree.levels:
         lines += ["<HIERARCHICAL>", "<HIERLEVELS> " + " ".join(map(str, tree.levels))]
+    elif tree.order:
+        lines.append('<CODELIST> "%s"' % tree.order)
     elif tree.file:
         lines += ["<HIERARCHICAL>", '<HIERCODELIST> "%s"' % tree.file]
         lines += ["<HIERLEADSTRING> " + tree.lead] if tree.lead != "@" else []

@@ -37,7 +37,8 @@ class Making(Columns):
         self.rules = check_count_rules(self.rules) if self.is_count else self.rules
         self.method = check_method(words.one.get("method", "MOD()"), "contributors" in words.flags)
         self.outputs = output_names(self.stem, len(self.tables))
-        self.inputs = [words.csv, *self.tree_files.values(), *(path for _, path in self.priors())]
+        lists = [*self.tree_files.values(), *self.orders.values()]
+        self.inputs = [words.csv, *lists, *(path for _, path in self.priors())]
         later = [*self.outputs, self.stem + ".cert", self.stem + ".extra"]
         check_places(self.out, [*self.own_files(), *later], self.inputs, "force" in words.flags)
 
@@ -126,6 +127,10 @@ class Making(Columns):
             found = variable.listed(self.tree_files[it], self.leads.get(it, "@"), self.out)
         elif it in self.chains:
             found = variable.by_parents(self.chains[it])
+        elif it in self.orders:
+            found = variable.ordered(self.orders[it], self.out)
+            name = "%s_%s.cdl" % (self.stem, self.made[it])
+            return found if found.text is None else found._replace(order=name)
         else:
             return variable.flat()
         return found if found.text is None else found._replace(file=self.tree_name(it))
@@ -218,7 +223,7 @@ class Making(Columns):
         their bytes.
         """
         layout = Layout(self.fields(), self.source.name)
-        trees = {it.file: it.text for it in self.trees if it.text is not None}
+        trees = {it.file or it.order: it.text for it in self.trees if it.text is not None}
         texts = {self.stem + ".rda": layout.metadata(), **trees}
         texts.update(self.count_texts() if self.is_count else {})
         microdata, job = self.stem + ".asc", self.stem + ".job"

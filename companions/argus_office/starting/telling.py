@@ -5,6 +5,7 @@ from typing import List, Sequence
 from argus_office.starting.amounts import exactly, written
 from argus_office.starting.counts import first_safe
 from argus_office.starting.depths import depth_line
+from argus_office.starting.doubts import doubts_of
 from argus_office.starting.making import Making
 from argus_office.starting.refusals import counted
 from argus_office.starting.summary import (
@@ -14,7 +15,7 @@ from argus_office.starting.summary import (
 
 def lines_of(making: Making, files: Sequence[str]) -> List[str]:
     """What start says of the files that it has written, a line each."""
-    lines = [*columns_of(making), *left_of(making)]
+    lines = [*columns_of(making), *left_of(making), *doubts_of(making)]
     own = making.own_files()
     order = ", ".join([*own, *(it for it in files if it not in own)])
     lines.append("Written: %s. Every record was read back and compared with the CSV." % order)

@@ -36,7 +36,7 @@ def read_text(path: str) -> str:
         return content(os.fsencode(path), None).decode("latin-1")
     except Unread as fault:
         raise Refusal(
-            fault.system, "Correct the name of the hierarchy file", shown(path, 80)
+            fault.system, "Correct the name of the file", shown(path, 80)
         ) from fault
 
 

@@ -10,7 +10,7 @@ from collections import Counter
 from itertools import compress
 from typing import Dict, Iterable, List, NamedTuple, Optional, Sequence, Set, Tuple
 
-from argus_office.starting.csv_file import BYTE_ORDER_MARK, Records, Source
+from argus_office.starting.csv_file import BLANKS, BYTE_ORDER_MARK, Records, Source
 from argus_office.starting.refusals import Refusal, shown
 from argus_office.starting.tree_files import MOST_LEVELS, read_text, read_tree, tree_text
 
@@ -29,6 +29,8 @@ class Tree(NamedTuple):
     # The hierarchy file as it is named, and its text where start has to write it.
     file: str = ""
     text: Optional[str] = None
+    # The code list as it is named, which gives the order of codes that are all below the total.
+    order: str = ""
     # The parent of each code that isn't right below the total, where no levels say it.
     parents: Optional[Dict[str, str]] = None
 
@@ -66,6 +68,27 @@ def sizes_of(depths: Iterable[int]) -> List[int]:
     return [counts[it] for it in range(1, max(counts, default=0) + 1)]
 
 
+def fit_path(path: str, out: str) -> str:
+    """The name of a file as metadata in a folder can have it; empty where they can't."""
+    there = os.path.relpath(path, out)
+    is_plain = there.isascii() and there.isprintable() and '"' not in there
+    return there if is_plain and len(there) <= 255 else ""
+
+
+def listed_codes(text: str, total: str) -> List[str]:
+    """The codes of a code list, as argus reads it: up to the first comma, without one pair of
+    quotes, and each once.
+    """
+    found: Dict[str, None] = {}
+    for line in text.split("\n"):
+        code = line.rstrip("\r").partition(",")[0].strip(BLANKS)
+        if len(code) > 1 and code[0] == code[-1] == '"':
+            code = code[1:-1]
+        if code and code != total:
+            found[code] = None
+    return list(found)
+
+
 class Variable:
     """A column that spans a table: its codes as the records have them."""
 
@@ -80,6 +103,9 @@ class Variable:
         self.counts = Counter(compress(self.codes, kept))
         self.all = set(self.codes)
         self.missing = sorted((it for it in self.all if it in missing), key=self.codes.index)
+        # Codes that a code list lacks, and codes of it that no record has.
+        self.unlisted: List[str] = []
+        self.unused: List[str] = []
         self.check()
 
     def letters(self, code: str) -> str:
@@ -131,6 +157,23 @@ class Variable:
     def flat(self) -> Tree:
         """All codes right below the total."""
         return Tree([len(self.counts)])
+
+    def ordered(self, path: str, out: str) -> Tree:
+        """All codes right below the total, in the order of a code list of the office.
+
+        It is named where it stands; one with a byte order mark is written anew.
+        """
+        text = read_text(path)
+        marked = text.startswith(BYTE_ORDER_MARK)
+        text = text[3:] if marked else text
+        listed = listed_codes(text, self.total)
+        self.unlisted = sorted((it for it in self.counts if it not in listed and it not in
+                                self.missing), key=self.codes.index)
+        self.unused = [it for it in listed if it not in self.counts]
+        count = len({*listed, *self.counts})
+        self.too_many(count)
+        there = "" if marked else fit_path(path, out)
+        return Tree([count], order=there, text=None if there else text)
 
     def too_many(self, count: int) -> None:
         """Refuses more codes than argus takes, parts of codes and listed codes among them."""
@@ -200,14 +243,12 @@ class Variable:
             parents, shown(os.path.basename(path)),
             "Correct the code, or add it to the hierarchy file"
         )
-        there = os.path.relpath(path, out)
-        is_fit = not marked and there.isascii() and there.isprintable(
-        ) and '"' not in there and len(there) <= 255
+        there = "" if marked else fit_path(path, out)
         return Tree(
             self.with_missing(parents),
             lead=lead,
-            file=there if is_fit else "",
-            text=None if is_fit else text,
+            file=there,
+            text=None if there else text,
             parents=parents
         )
 

@@ -15,7 +15,8 @@ ONE = (
     "nodes", "out"
 )
 MANY = (
-    "by", "table", "levels", "tree", "lead", "parent", "total", "missing", "apriori", "round"
+    "by", "table", "levels", "tree", "lead", "parent", "total", "missing", "apriori", "round",
+    "order",
 )
 FLAGS = ("contributors", "count", "force")
 ENCODINGS = {
@@ -138,7 +139,7 @@ class Words:
         """Every column that the words name, each with the names that it may have."""
         found = [spellings(it) for table in self.tables() for it in table]
         found += [(self.one[it],) for it in ("value", "weight") if it in self.one]
-        for name in ("levels", "tree", "parent", "total", "round"):
+        for name in ("levels", "tree", "parent", "total", "round", "order"):
             found += [(column,) for column, _ in self.pairs(name)]
         return found
 
