@@ -15,6 +15,7 @@ COMPANIONS = {
     "explain": "argus_office.explaining.call",
     "page": "argus_office.paging.call",
     "carry": "argus_office.carrying",
+    "together": "argus_office.together",
     "seal": "argus_office.sealing",
 }
 

@@ -7,9 +7,9 @@ from typing import List
 from made_repository import DAY, LOGIC, Tree
 from support import TOP, Case, ask, call, environment, put, put_command, read
 
-COMPANIONS = ("start", "explain", "page", "carry", "seal")
+COMPANIONS = ("start", "explain", "page", "carry", "together", "seal")
 # One-line scripts at the top, for one release.
-OLD_PATHS = (*COMPANIONS, "cells")
+OLD_PATHS = ("start", "explain", "page", "carry", "seal", "cells")
 
 
 def commands() -> List[str]:

@@ -29,9 +29,9 @@ class Columns:
         """Which column has which part, by the words."""
         words = self.words
         self.is_count = "count" in words.flags
-        if not (self.is_count or "value" in words.one) or not words.tables():
+        if not (self.is_count or words.values) or not words.tables():
             raise self.unsaid()
-        self.value = None if self.is_count else self.column(words.one["value"])
+        self.value = None if self.is_count else self.column(words.many["value"][0])
         self.weight = self.column(words.one["weight"]) if "weight" in words.one else None
         self.shapes = [[self.spanned(it) for it in table] for table in words.tables()]
         self.tables = [[it.column for it in table] for table in self.shapes]
@@ -71,7 +71,9 @@ class Columns:
         self.totals = {column(name): self.source.bytes_of(word) for name, word in totals}
         self.chains = {it: self.chain(it) for it in self.spanning if it in self.parents}
         self.orders = {column(name): path for name, path in words.pairs("order")}
-        self.rounds = {column(name): decimals_of(it, name) for name, it in words.pairs("round")}
+        rounds = {column(name): decimals_of(it, name) for name, it in words.pairs("round")}
+        others = {column(it) for it in words.values} - {self.value}
+        self.rounds = {it: decimals for it, decimals in rounds.items() if it not in others}
 
     def check_tables(self) -> None:
         """Refuses tables that argus doesn't take: 8 tables, 6 variables in one and 8 in all, none

@@ -31,7 +31,7 @@ class Making(Columns):
     def __init__(self, words: Words) -> None:
         super().__init__(words)
         self.out = words.one.get("out") or os.path.dirname(words.csv) or "."
-        self.stem = stem_of(words.csv)
+        self.stem = stem_of(words.csv) + ("_" + self.response if words.is_part else "")
         example = COUNT_RULES if self.is_count else EXAMPLE_RULES
         self.rules = check_rules(words.one.get("rule", example), self.weight is not None)
         self.rules = check_count_rules(self.rules) if self.is_count else self.rules

@@ -18,26 +18,31 @@ from argus_office.starting.words import HELP, USAGE, Usage, Words
 
 def make(words: Words) -> List[str]:
     """Makes all files, compares them and puts them in their places; what start says of them."""
-    making = Making(words)
-    making.read()
-    is_new = not os.path.isdir(making.out)
+    makings = [Making(it) for it in words.parts()]
+    if len({it.stem for it in makings}) < len(makings):
+        raise Usage("two words --value mean the same column")
+    for making in makings:
+        making.read()
+    out, may_replace = makings[0].out, "force" in words.flags
+    is_new = not os.path.isdir(out)
     if is_new:
-        os.mkdir(making.out)
+        os.mkdir(out)
     folder = None
     is_done = False
     try:
-        folder = tempfile.mkdtemp(prefix=".start-", dir=making.out)
-        files = making.write(folder)
-        making.compare(folder)
-        check_places(making.out, files, making.inputs, "force" in words.flags)
-        put(folder, making.out, files, "force" in words.flags)
+        folder = tempfile.mkdtemp(prefix=".start-", dir=out)
+        files = [making.write(folder) for making in makings]
+        for making, names in zip(makings, files):
+            making.compare(folder)
+            check_places(out, names, making.inputs, may_replace)
+        put(folder, out, [name for names in files for name in names], may_replace)
         is_done = True
-        return telling.lines_of(making, files)
+        return telling.lines_of(makings, files)
     finally:
         if folder:
             shutil.rmtree(folder, ignore_errors=True)
         if is_new and not is_done:
-            os.rmdir(making.out)
+            os.rmdir(out)
 
 
 def told(words: Sequence[str]) -> Tuple[int, List[str], List[str]]:

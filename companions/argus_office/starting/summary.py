@@ -93,12 +93,14 @@ def blanks_dropped(source: Source, records: Records, used: Sequence[int]) -> Lis
     return ["Blanks at the ends of fields don't count (%s)." % ", ".join(names)] if names else []
 
 
-def next_commands(out: str, job: str) -> List[str]:
+def next_commands(out: str, jobs: Sequence[str]) -> List[str]:
     """The calls that come next, from the folder of the job."""
     is_here = os.path.realpath(out) == os.path.realpath(".")
     go = [] if is_here else ["  cd " + shlex.quote(os.path.relpath(out))]
     argus = called_from(out)
-    return [*go, "  %s run %s" % (argus, job), "  %s page %s" % (argus, job)]
+    if len(jobs) > 1:
+        return [*go, "  %s together %s" % (argus, " ".join(jobs))]
+    return [*go, "  %s run %s" % (argus, jobs[0]), "  %s page %s" % (argus, jobs[0])]
 
 
 def called_from(out: str) -> str:

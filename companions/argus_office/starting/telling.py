@@ -13,8 +13,18 @@ from argus_office.starting.summary import (
 )
 
 
-def lines_of(making: Making, files: Sequence[str]) -> List[str]:
+def lines_of(makings: Sequence[Making], files: Sequence[Sequence[str]]) -> List[str]:
     """What start says of the files that it has written, a line each."""
+    lines: List[str] = []
+    for making, names in zip(makings, files):
+        lines += lines_of_job(making, names)
+    lines[-1] += " Next:"
+    jobs = [it.stem + ".job" for it in makings]
+    return lines + next_commands(makings[0].out, jobs)
+
+
+def lines_of_job(making: Making, files: Sequence[str]) -> List[str]:
+    """What start says of one job and its files."""
     lines = [*columns_of(making), *left_of(making), *doubts_of(making)]
     own = making.own_files()
     order = ", ".join([*own, *(it for it in files if it not in own)])
@@ -28,8 +38,8 @@ def lines_of(making: Making, files: Sequence[str]) -> List[str]:
     kept = sum(making.kept)
     counts = count_of(kept, "record"), len(making.kept) - kept, count_of(making.cells, "cell")
     lines.append("Compare codes and total with what the office knows. argus should find %s, "
-                 "%d skipped, %s. Next:" % counts)
-    return lines + next_commands(making.out, making.stem + ".job")
+                 "%d skipped, %s." % counts)
+    return lines
 
 
 def columns_of(making: Making) -> List[str]:

@@ -1,5 +1,6 @@
 """The words of the command."""
 
+import copy
 import os
 from typing import Dict, List, Sequence, Set, Tuple
 
@@ -11,12 +12,12 @@ USAGE = (
     "(argus start --help has all words)"
 )
 ONE = (
-    "value", "weight", "separator", "decimal", "encoding", "rule", "method", "cost", "steps",
+    "weight", "separator", "decimal", "encoding", "rule", "method", "cost", "steps",
     "nodes", "out"
 )
 MANY = (
-    "by", "table", "levels", "tree", "lead", "parent", "total", "missing", "apriori", "round",
-    "order",
+    "value", "by", "table", "levels", "tree", "lead", "parent", "total", "missing", "apriori",
+    "round", "order",
 )
 FLAGS = ("contributors", "count", "force")
 ENCODINGS = {
@@ -39,12 +40,28 @@ class Words:
         self.one: Dict[str, str] = {}
         self.many: Dict[str, List[str]] = {it: [] for it in MANY}
         self.flags: Set[str] = set()
+        # Whether this is about one of several responses, with a job of its own.
+        self.is_part = False
         left = list(words)
         while left:
             self.take(left.pop(0), left)
         if not self.csv:
             raise Usage("the name of a CSV is missing")
+        # All responses, where this is about one of them too.
+        self.values = list(self.many["value"])
         self.check()
+
+    def parts(self) -> List["Words"]:
+        """The words for each response."""
+        if len(self.values) < 2:
+            return [self]
+        found = []
+        for value in self.values:
+            part = copy.copy(self)
+            part.many = {**self.many, "value": [value]}
+            part.is_part = True
+            found.append(part)
+        return found
 
     def take(self, word: str, left: List[str]) -> None:
         """Takes one word, with the one behind it where it needs one."""
@@ -72,6 +89,9 @@ class Words:
         """Refuses what can be seen without the CSV."""
         if self.many["by"] and self.many["table"]:
             raise Usage("--by is for one table, --table for several: give one of the two kinds")
+        for value in self.values:
+            if self.values.count(value) > 1:
+                raise Usage("--value %s is there twice" % shown(value))
         self.check_count()
         separator = self.one.get("separator")
         if separator is not None:
@@ -103,7 +123,7 @@ class Words:
         """Refuses words that don't go with counts."""
         if "count" not in self.flags:
             return
-        if "value" in self.one:
+        if self.many["value"]:
             raise Usage("--count counts records, --value adds a column up: give one of the two")
         if "weight" in self.one:
             raise Usage("--count counts records, and with --weight they would be estimates: leave "
@@ -138,7 +158,8 @@ class Words:
     def named(self) -> List[Tuple[str, ...]]:
         """Every column that the words name, each with the names that it may have."""
         found = [spellings(it) for table in self.tables() for it in table]
-        found += [(self.one[it],) for it in ("value", "weight") if it in self.one]
+        found += [(it,) for it in self.values]
+        found += [(self.one["weight"],)] if "weight" in self.one else []
         for name in ("levels", "tree", "parent", "total", "round", "order"):
             found += [(column,) for column, _ in self.pairs(name)]
         return found
