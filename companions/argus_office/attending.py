@@ -14,9 +14,13 @@ import time
 from types import FrameType
 from typing import IO, List, NoReturn, Optional
 
+from argus_office.coarser import said_of
+
 MAIN = os.path.join(os.path.dirname(os.path.realpath(__file__)), "__main__.py")
 # After how many seconds a run is a long one.
 LONG = 5
+# After how many seconds without an answer a coarser job is named.
+WITHOUT_ANSWER = 60
 SIGNALS = (signal.SIGINT, signal.SIGTERM, signal.SIGHUP)
 
 
@@ -47,6 +51,7 @@ class Attendance:
         self.begun = time.monotonic()
         self.is_told = is_terminal(sys.stderr)
         self.answer = held_file() if name == "argus" else None
+        self.is_advised = name != "argus" or words[:1] != ["run"] or len(words) != 2
         self.is_ticking = self.is_told and (self.answer is not None or not is_terminal(sys.stdout))
         self.child: Optional["subprocess.Popen[bytes]"] = None
         # The signal that ends this, where one came.
@@ -98,9 +103,17 @@ class Attendance:
                 status = child.wait(1 if self.is_ticking else None)
                 return 128 - status if status < 0 else status
             except subprocess.TimeoutExpired:
+                self.advise()
                 if self.took() >= LONG:
                     line = "%s: running for %s (minutes:seconds)" % (self.name, length(self.took()))
                     self.say("\r\033[K%s\r" % line)
+
+    def advise(self) -> None:
+        """Names a coarser job, once, where there is no answer for long."""
+        if not self.is_advised and self.took() >= WITHOUT_ANSWER:
+            self.is_advised = True
+            line = said_of(self.words[1])
+            self.say("\r\033[K%s\n" % line if line else "")
 
     def end_ticks(self) -> None:
         """Takes back the line that says how long it takes."""

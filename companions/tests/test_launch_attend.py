@@ -215,6 +215,24 @@ class Ended(Case):
         found = tree.at_terminal("run", "0", "0", ARGUS_EXPLAIN="0")
         self.same(found, (0, "[run][0][0]\n", ""), "a short run")
 
+    def test_coarser(self) -> None:
+        """After a minute (here two seconds) without an answer a coarser job is named once, at a
+        terminal, and of a job that can't be read nothing.
+        """
+        tree = Tree(self.folder).ready()
+        attending = tree.at("companions", "argus_office", "attending.py")
+        put(attending, read(attending).replace("WITHOUT_ANSWER = 60", "WITHOUT_ANSWER = 2"))
+        put(os.path.join(tree.work, "firms.rda"), Overlaps.METADATA)
+        put(os.path.join(tree.work, "firms.asc"), "11 North 1\n12 South 2\n21 South 3\n")
+        put(os.path.join(tree.work, "it.job"), Overlaps.JOB % '"Division"')
+        put(tree.at("out", "argus"), "#!/bin/sh\nsleep 4.3\necho said\n")
+        for job, times in (("it.job", 1), ("no.job", 0)):
+            status, said, told = tree.at_terminal("run", job, ARGUS_EXPLAIN="0")
+            self.same((status, said), (0, "said\n"), job)
+            line = "argus: no answer after a minute. A coarser job takes less: Industry has the " \
+                'most codes (3); <DEPTH> (1,"Industry",1) leaves lower levels out'
+            self.same(told.count(line), times, "%s: %r" % (job, told))
+
     def end(self, tree: Tree, number: int, more: Dict[str, Any]) -> Optional[str]:
         """Ends a run by a signal; what isn't as it has to be."""
         env = tree.environment(**more)

@@ -6,6 +6,7 @@ from argus_office.starting.amounts import exactly, written
 from argus_office.starting.counts import first_safe
 from argus_office.starting.depths import depth_line
 from argus_office.starting.doubts import doubts_of
+from argus_office.starting.durations import duration_lines
 from argus_office.starting.making import Making
 from argus_office.starting.refusals import counted
 from argus_office.starting.summary import (
@@ -19,6 +20,7 @@ def lines_of(makings: Sequence[Making], files: Sequence[Sequence[str]]) -> List[
     for making, names in zip(makings, files):
         lines += lines_of_job(making, names)
     lines[-1] += " Next:"
+    lines[-1:-1] = [line for it in makings for line in duration_lines(it)]
     jobs = [it.stem + ".job" for it in makings]
     return lines + next_commands(makings[0].out, jobs)
 
