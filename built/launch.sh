@@ -36,7 +36,7 @@ run_companion() {
 
 called=argus
 case ${1:-} in
-start | explain | page | carry | together | seal)
+start | explain | page | carry | together | whole | seal)
     command -v python3 >/dev/null || fail "argus $1 needs Python 3.9 or later, and python3 isn't on the path"
     has_python || fail "argus $1 needs Python 3.9 or later, and python3 is $(python3 -V 2>&1)"
     run_companion "$@"

@@ -246,7 +246,7 @@ def check_commands(page, answers):
 # ---- blocks that call a companion, or several jobs at a time
 
 PROGRAMS = ["argus", "cells"]
-COMPANIONS = ["argus start", "argus explain", "argus page", "argus seal", "argus carry", "argus together", "outside/check"]
+COMPANIONS = ["argus start", "argus explain", "argus page", "argus seal", "argus carry", "argus together", "argus whole", "outside/check"]
 COMPANION = re.compile(r"(\.\./\.\./(?:" + "|".join(COMPANIONS) + r")|make|xargs|parallel) ")
 # What a block of README or the manual may leave out of what it prints: a comparison of its own is in companions/tests.
 QUIET = ("../../argus start ",)

@@ -16,6 +16,7 @@ COMPANIONS = {
     "page": "argus_office.paging.call",
     "carry": "argus_office.carrying",
     "together": "argus_office.together",
+    "whole": "argus_office.whole",
     "seal": "argus_office.sealing",
 }
 

@@ -7,7 +7,7 @@ from typing import List
 from made_repository import DAY, LOGIC, Tree
 from support import TOP, Case, ask, call, environment, put, put_command, read
 
-COMPANIONS = ("start", "explain", "page", "carry", "together", "seal")
+COMPANIONS = ("start", "explain", "page", "carry", "together", "whole", "seal")
 # One-line scripts at the top, for one release.
 OLD_PATHS = ("start", "explain", "page", "carry", "seal", "cells")
 

@@ -4,8 +4,11 @@ import os
 from typing import List, Sequence
 
 from start_support import StartCase, start, told
-from support import call, program, put
+from support import ask, call, example, program, put
 from whole_tables import Grid, Key, Reader, grids
+
+from argus_office.reading.certificate import Certificate
+from argus_office.whole import moved
 
 NO_LIMIT = 1000000000000
 LEVELS = "k,s\n11,a\n11,a\n12,b\n2,\n"
@@ -107,3 +110,33 @@ class Counts(StartCase):
         """A hidden cell can have each of these values."""
         for value in values:
             self.wants(reader.can_be(key, value), "%s can't be %d: %s" % (key, value, grid))
+
+
+class Whole(StartCase):
+    """`argus whole`."""
+
+    def test_moved(self) -> None:
+        """Only tables without fractions count, for every cell that they move."""
+        lines = (
+            "hidden 1 2 3", "world 1 above 1 1:1 2:-1", "world 2 above 2 2:3 3:-3 7:1",
+            "world 3 below 2 3:-2 4:2", "world 9 below 1", "need 5 1 above 1 6:1", "",
+        )
+        text = "\n".join(["argus certificate 2", *lines])
+        found = moved(Certificate(text.encode("ascii")).worlds)
+        self.same(found, {1, 2, 3, 4}, "the cells that are moved")
+
+    def test_jobs(self) -> None:
+        """A table of three variables of which the manual says that one number determines all hidden
+        cells, and in which its sensitive cell can be 11, with whole numbers in all other cells; a
+        release that was changed; and none.
+        """
+        example("insider", "cube.asc", "cube.hst", "cube.job", "cube.rda")
+        said = ask("whole", "cube.job")
+        self.same((said.status, said.out), (2, ""), "before the run: " + said.err)
+        ask("run", "cube.job")
+        said = ask("whole", "cube.job")
+        line = "whole: 8 of 8 sensitive cells have another value in a whole table\n"
+        self.same(said, (0, line, ""), "cube.job")
+        put("cube.cert", told("cube.cert").replace("world 30 above", "world 30 below"))
+        said = ask("whole", "cube.job")
+        self.wants(said.status == 3 and "argus check cube.job says" in said.err, said.err)
