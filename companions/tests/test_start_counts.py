@@ -50,6 +50,7 @@ class Counts(StartCase):
                 want += "%s,pl,%s\n" % (codes, levels) if levels else ""
             self.same(told(name), want, name)
         self.wants(run().startswith("released: 4 records, 0 skipped, 0 passed over, "), run())
+        self.wants("argus whole it.job\n" in answer.out, "whole comes next: " + answer.out)
 
     def test_marks(self) -> None:
         """A comma in a code, a column called count, and a rounded table, of which nobody learns
@@ -58,6 +59,7 @@ class Counts(StartCase):
         put("it.csv", 'a,count\n"x,y",1\nz,2\nz,3\nz,4\n')
         answer = start("it.csv", "--count", "--by", "a", "--by", "count")
         self.same(answer[::2], (0, ""), "the call")
+        self.wants("argus whole" not in answer.out, "nor whole: " + answer.out)
         self.wants('"a""count"|"count_2"' in told("it.job"), told("it.job"))
         self.wants('<APRIORI> "it_counts.hst",1,";"\n' in told("it.job"), told("it.job"))
         self.wants(run().startswith("released: 4 records"), run())

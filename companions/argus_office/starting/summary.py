@@ -93,14 +93,17 @@ def blanks_dropped(source: Source, records: Records, used: Sequence[int]) -> Lis
     return ["Blanks at the ends of fields don't count (%s)." % ", ".join(names)] if names else []
 
 
-def next_commands(out: str, jobs: Sequence[str]) -> List[str]:
-    """The calls that come next, from the folder of the job."""
+def next_commands(out: str, jobs: Sequence[str], needs_whole: bool) -> List[str]:
+    """The calls that come next, from the folder of the job; for counts, where their complete tables
+    may have fractions, also which of them are open to whole numbers.
+    """
     is_here = os.path.realpath(out) == os.path.realpath(".")
     go = [] if is_here else ["  cd " + shlex.quote(os.path.relpath(out))]
     argus = called_from(out)
     if len(jobs) > 1:
         return [*go, "  %s together %s" % (argus, " ".join(jobs))]
-    return [*go, "  %s run %s" % (argus, jobs[0]), "  %s page %s" % (argus, jobs[0])]
+    words = ["run", "whole", "page"] if needs_whole else ["run", "page"]
+    return [*go, *("  %s %s %s" % (argus, it, jobs[0]) for it in words)]
 
 
 def called_from(out: str) -> str:

@@ -6,7 +6,7 @@ from argus_office.starting.amounts import exactly, written
 from argus_office.starting.counts import first_safe
 from argus_office.starting.depths import depth_line
 from argus_office.starting.doubts import doubts_of
-from argus_office.starting.durations import duration_lines
+from argus_office.starting.durations import duration_lines, kind_of
 from argus_office.starting.making import Making
 from argus_office.starting.refusals import counted
 from argus_office.starting.summary import (
@@ -22,7 +22,10 @@ def lines_of(makings: Sequence[Making], files: Sequence[Sequence[str]]) -> List[
     lines[-1] += " Next:"
     lines[-1:-1] = [line for it in makings for line in duration_lines(it)]
     jobs = [it.stem + ".job" for it in makings]
-    return lines + next_commands(makings[0].out, jobs)
+    kind = kind_of(makings[0])
+    is_flat = kind.tables == 1 and kind.variables < 3 and not kind.has_levels
+    needs_whole = makings[0].is_count and not makings[0].is_rounded() and not is_flat
+    return lines + next_commands(makings[0].out, jobs, needs_whole)
 
 
 def lines_of_job(making: Making, files: Sequence[str]) -> List[str]:
