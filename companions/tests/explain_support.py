@@ -32,7 +32,7 @@ def explained(words: Sequence[str], answer: str) -> Explained:
     said = answers.explained(asked)
     here = "(%s)" % os.getcwd()
     lines = ["  " + it.replace(here, "(FOLDER)") for it in said.lines]
-    return Explained(said.lines, said.rows, "".join(it + "\n" for it in lines + said.rows))
+    return Explained(said.lines, said.rows(), "".join(it + "\n" for it in lines + said.rows()))
 
 
 class Room:

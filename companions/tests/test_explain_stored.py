@@ -134,6 +134,34 @@ class Command(Case):
             said = self.explain("--lines", "run", "07.job", text=answer)
             self.same(said, (0, rows, ""), "explain --lines")
 
+    def test_write(self) -> None:
+        """The files that mend a job protect it, and replace none."""
+        count = 0
+        for number in sorted({it[:2] for it in os.listdir(JOBS)}):
+            with Room(JOBS):
+                before = {it: text_in(it) for it in os.listdir(".")}
+                job, answer = number + ".job", text_in(number + ".said")
+                said = self.explain("--write", "run", job, text=answer)
+                new = sorted(set(os.listdir(".")) - set(before))
+                self.same({it: text_in(it) for it in before}, before, job + ": the office's files")
+                if not re.search("(?m)^(Save as|Add to) ", before[number + ".explained"]):
+                    self.same((said[0], new), (2, []), job + ": nothing to write")
+                    continue
+                count += 1
+                made = number + "_mended.job"
+                names = [it for it in new if it != made] + [made]
+                text = "  Written: %s. Next: argus run %s\n" % (", ".join(names), made)
+                self.same(said, (0, text, ""), job + ": what is written")
+                after = asked(ARGUS, ["run", made])[1]
+                self.wants(after.startswith("released: "), "%s: then %s" % (job, after))
+                self.same(asked(ARGUS, ["check", made])[1], "accepted\n", made)
+                os.remove(made)
+                again = self.explain("--write", "run", job, text=answer)
+                why = "  %s isn't written: it is there already.\n" % names[0]
+                self.same(again, (2, why, ""), job + ": a second time")
+                self.wants(not os.path.exists(made), made + " is left")
+        self.wants(count > 0, "no job with lines to write")
+
     def test_statuses(self) -> None:
         with Room(JOBS):
             for words, status in (

@@ -6,6 +6,7 @@ from typing import List, NamedTuple, Optional, Tuple
 
 from argus_office.explaining import (contributors, doubts, jobs, metadata, priors, protection,
                                      records, releases, trees, undecided)
+from argus_office.explaining.mending import PriorLines
 from argus_office.explaining.texts import absent
 from argus_office.reading.book import Book
 from argus_office.reading.files import Unread, shown_name
@@ -24,12 +25,20 @@ class Asked(NamedTuple):
     answer: List[str]
 
 
+# Lines of an explanation, and lines for a priori files.
+Told = Tuple[List[str], List[PriorLines]]
+
+
 class Said(NamedTuple):
     """What is said: at most six lines, after a release one more for each pair of variables that
     overlap, and the lines for a priori files that may follow."""
 
     lines: List[str]
-    rows: List[str]
+    priors: List[PriorLines]
+
+    def rows(self) -> List[str]:
+        """The lines for a priori files, each file's behind one that says where they go."""
+        return [row for it in self.priors for row in it.rows()]
 
 
 def explained(asked: Asked) -> Said:
@@ -42,10 +51,10 @@ def explained(asked: Asked) -> Said:
     except Unread as fault:
         return Said(cut(no_job(asked, answer, fault)), [])
     try:
-        lines, rows = of_job(job, asked, answer)
+        lines, priors_told = of_job(job, asked, answer)
     except Unread as fault:
-        lines, rows = [fault.text()], []
-    return Said(cut(lines, None if answer.startswith("released: ") else MOST), rows)
+        lines, priors_told = [fault.text()], []
+    return Said(cut(lines, None if answer.startswith("released: ") else MOST), priors_told)
 
 
 def cut(lines: List[str], most: Optional[int] = MOST) -> List[str]:
@@ -60,7 +69,7 @@ def no_job(asked: Asked, answer: str, fault: Unread) -> List[str]:
     return [fault.text()]
 
 
-def of_job(job: Job, asked: Asked, answer: str) -> Tuple[List[str], List[str]]:
+def of_job(job: Job, asked: Asked, answer: str) -> Told:
     """What to say of an answer about a job that can be read, by its first words."""
     if answer.startswith("refused: "):
         return refused(job, asked, answer[9:]), []
@@ -77,7 +86,7 @@ def of_job(job: Job, asked: Asked, answer: str) -> Tuple[List[str], List[str]]:
     return other(job, answer), []
 
 
-def cannot(job: Job, lines: List[str]) -> Tuple[List[str], List[str]]:
+def cannot(job: Job, lines: List[str]) -> Told:
     """What to say of `cannot protect ..`: lines, and those for a priori files."""
     question = protection.question_of(lines)
     if question is None:

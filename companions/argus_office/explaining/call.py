@@ -5,11 +5,12 @@ import select
 import sys
 from typing import List
 
-from argus_office.explaining import answers, contributors
-from argus_office.reading.files import shown
+from argus_office.explaining import answers, contributors, mending
+from argus_office.reading.files import Unread, shown
+from argus_office.reading.job import Job
 
 USAGE = ("usage: argus explain JOB 'ANSWER' ['FURTHER LINE' ..] | argus explain run JOB <ANSWER | "
-         "argus explain --lines JOB 'ANSWER' 'multipliers ..'")
+         "argus explain --lines|--write JOB 'ANSWER' 'multipliers ..'")
 # How long a call that has an answer waits for further lines on standard input, in seconds.
 WAIT = 0.3
 
@@ -41,17 +42,24 @@ def needs_input(words: List[str]) -> bool:
 
 def printed(told: answers.Said, is_lines: bool) -> str:
     """What is printed: each line of the explanation behind two blanks, then the lines for a priori
-    files. Of the latter alone the line that says where they go is left out, if there is one."""
+    files, if they aren't too many. Of the latter alone the line that says where they go is left
+    out, if there is one."""
+    rows, lists = told.rows(), [it for it in told.priors if it.lines]
     if is_lines:
-        is_one = len(heads(told.rows)) < 2
-        return "".join(it + "\n" for it in told.rows if not is_one or it != told.rows[0])
-    rows = told.rows[:contributors.MOST_LINES + 1]
-    text = "".join("  %s\n" % it for it in told.lines) + "".join(map(line_of, rows))
-    if len(rows) < len(told.rows):
-        text += (
-            "  and %d lines more; argus explain --lines, with the same words, prints them all.\n" %
-            (len(told.rows) - len(rows)))
-    return text
+        return "".join(it + "\n" for it in (rows if len(lists) > 1 else rows[1:]))
+    text = "".join("  %s\n" % it for it in told.lines)
+    if len(rows) <= contributors.MOST_LINES + 1:
+        return text + "".join(map(line_of, rows))
+    text += "".join("  %s %d lines\n" % (it.where.rstrip(":") + ":", len(it.lines))
+                    for it in lists)
+    return text + ("  argus explain --write, with the same words, writes them and a job with them; "
+                   "--lines prints them.\n")
+
+
+def written(asked: answers.Asked, told: answers.Said) -> str:
+    """Writes the lines for a priori files, and gives what to say of it. Raises Unwritten."""
+    names = mending.write(Job(asked.job), told.priors)
+    return "  Written: %s. Next: argus run %s\n" % (", ".join(names), names[-1])
 
 
 def line_of(row: str) -> str:
@@ -61,15 +69,10 @@ def line_of(row: str) -> str:
     return row + "\n"
 
 
-def heads(rows: List[str]) -> List[str]:
-    """The lines that say where the others go."""
-    return [it for it in rows if it.startswith(("Add to ", "Save as "))]
-
-
 def said(words: List[str]) -> int:
     """Prints what explain says, and gives the status."""
-    is_lines = words[:1] == ["--lines"]
-    words = words[1:] if is_lines else words
+    way = words[0] if words[:1] in (["--lines"], ["--write"]) else ""
+    words = words[1:] if way else words
     if not words or words[0] in ("-h", "--help"):
         print(USAGE)
         return 0 if words else 1
@@ -80,9 +83,15 @@ def said(words: List[str]) -> int:
         print(USAGE)
         return 1
     told = answers.explained(asked)
-    sys.stdout.buffer.write(printed(told, is_lines).encode("utf-8", "surrogateescape"))
+    text, status = printed(told, way == "--lines"), 0 if told.lines else 2
+    if way == "--write":
+        try:
+            text = written(asked, told)
+        except (mending.Unwritten, Unread) as fault:
+            text, status = "  %s.\n" % str(fault), 2
+    sys.stdout.buffer.write(text.encode("utf-8", "surrogateescape"))
     sys.stdout.flush()
-    return 0 if told.lines else 2
+    return status
 
 
 def main(words: List[str]) -> int:

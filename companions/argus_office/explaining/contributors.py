@@ -9,13 +9,15 @@ states that rest as the lower level, for all such cells at once.
 from fractions import Fraction
 from typing import Dict, List, NamedTuple, Optional, Set, Tuple
 
+from argus_office.explaining.mending import PriorLines
 from argus_office.explaining.protection import (Question, Sum, by_lines, holders, level_of,
                                                 levels_text, reach_text, remedy, row_line)
 from argus_office.explaining.rooms import Rooms, knowers
 from argus_office.reading.book import Book
 from argus_office.reading.files import bytes_range, grouped, listed, shown, shown_name
+from argus_office.reading.priors import Statement
 
-# So many lines of an a priori file are printed beside the explanation; --lines prints them all.
+# So many lines for a priori files are printed beside the explanation; more are only counted.
 MOST_LINES = 20
 SEPARATORS = (b",", b";", b"|", b"/", b"#", b"~")
 
@@ -78,10 +80,10 @@ class Remedy:
             ]))
         return found
 
-    def older(self) -> List[str]:
+    def older(self) -> List[Statement]:
         """The pl lines that the new ones replace."""
         return [
-            self.book.cells[it].said["pl"].place() for it in self.stated
+            self.book.cells[it].said["pl"] for it in self.stated
             if "pl" in self.book.cells[it].said
         ]
 
@@ -131,7 +133,7 @@ def why_text(book: Book, question: Question, it: Sum, reach: Fraction) -> str:
     return "It is %s." % it.text()
 
 
-def explain(book: Book, question: Question) -> Tuple[List[str], List[str]]:
+def explain(book: Book, question: Question) -> Tuple[List[str], List[PriorLines]]:
     """What to say of `cannot protect cell C SIDE from row R`: the explanation, and the lines for a
     priori files with where they go."""
     if question.cell >= len(book.cells) or not 1 <= question.row <= len(book.rows):
@@ -175,10 +177,11 @@ def closing(book: Book, given: Remedy, it: Sum) -> List[str]:
             0, "Always shown, by a p line: %s. %s" %
             (by_lines(book, it.shown_by_line()), remedy(book, it)))
     also = []
-    if given.older():
+    older = [it.place() for it in given.older()]
+    if older:
         also.append("Delete the pl line%s %s, in whose place the new one%s." %
-                    (("", listed(given.older(), 4), " comes") if len(given.older()) == 1 else
-                     ("s", listed(given.older(), 4), "s come")))
+                    (("", listed(older, 4), " comes") if len(older) == 1 else
+                     ("s", listed(older, 4), "s come")))
     if given.closed:
         also.append(
             "No pl line helps %s: p lines, b lines or empty cells hold %s." %
@@ -189,10 +192,17 @@ def closing(book: Book, given: Remedy, it: Sum) -> List[str]:
     return lines[:-1] + ([" ".join(also)] if also else []) + lines[-1:]
 
 
-def table_lines(book: Book, given: Remedy) -> List[str]:
-    """The lines for a priori files, with where they go."""
-    found = []
-    for table, separator, rows in given.by_table():
-        found.append(file_text(book, table, separator))
-        found += [row.decode("utf-8", "surrogateescape") for row in rows]
-    return found
+def table_lines(book: Book, given: Remedy) -> List[PriorLines]:
+    """The lines for a priori files, with where they go and what they replace; and for a file that
+    only loses lines, these."""
+    replaced: Dict[int, List[int]] = {}
+    for it in given.older():
+        replaced.setdefault(it.table, []).append(it.line)
+    found = [
+        PriorLines(
+            file_text(book, table, separator), table + 1, separator, rows,
+            replaced.pop(table + 1, []))
+        for table, separator, rows in given.by_table()
+    ]
+    separators = {it.table: it.separator for _, it in book.job.priors()}
+    return found + [PriorLines("", k, separators[k], [], it) for k, it in sorted(replaced.items())]
