@@ -9,6 +9,7 @@ import re
 from collections import Counter
 from typing import Dict, List, Optional, Tuple
 
+from argus_office.explaining.insiders import insiders
 from argus_office.explaining.overlaps import overlaps
 from argus_office.explaining.texts import foreign
 from argus_office.reading.files import (BLANKS, MARK, Unread, bytes_range, content, grouped,
@@ -50,8 +51,8 @@ def odd(data: Microdata, job: Job, answer: str, is_after_run: bool) -> List[str]
     whole_file = foreign(data.data) if not data.data.startswith(MARK) else None
     said = ["%s: %s" % (shown_name(data.name), whole_file)] if whole_file else []
     said += marked(data) + letters(data) + cut_codes(data) + cut_ranges(data) + cut_numbers(
-        data) + far(data) + indented(data)
-    return said
+        data) + far(data) + total(data) + indented(data)
+    return said + insiders(job) + passed_over(data)
 
 
 def marked(data: Microdata) -> List[str]:
@@ -212,6 +213,43 @@ def far(data: Microdata) -> List[str]:
         "%s, line %d: %s is %s, %s times the next largest value: is it in another unit?" %
         (shown_name(data.name), first[1].line, shown_name(variable.name),
          shown(variable.field(first[1].raw).strip(BLANKS)), grouped(first[0] // second))
+    ]
+
+
+def total(data: Microdata) -> List[str]:
+    """A value that is that of all other records together: a total that was left among them."""
+    variable = data.names.response
+    if variable is None:
+        return []
+    values = [(units_of(variable.field(it.raw).strip(BLANKS), variable.decimals()) or 0, it)
+              for it in data.rows()]
+    whole = sum(value for value, _ in values)
+    odd = next((it for value, it in values if value and 2 * value == whole), None)
+    if odd is None or sum(1 for value, _ in values if value) < 3:
+        return []
+    return [
+        "%s, line %d: %s is %s, as much as all other records together: is it a total that was left "
+        "in the data?" % (shown_name(data.name), odd.line, shown_name(
+            variable.name), shown(variable.field(odd.raw).strip(BLANKS)))
+    ]
+
+
+# What an office may have meant by keywords that argus passes over.
+PASSED_OVER = {
+    "HOLDING": "so each record counts as a contributor of its own, several of one enterprise as "
+               "several",
+    "REQUEST": "so no cell is protected because a respondent asked for it; u lines of an a priori "
+               "file declare cells unsafe",
+}
+
+
+def passed_over(data: Microdata) -> List[str]:
+    """Lines of the metadata that say whose records they are, or who asked for protection: argus
+    passes them over."""
+    return [
+        "%s: <%s> is passed over, %s." %
+        (data.metadata.place(line.number), line.keyword, PASSED_OVER[line.keyword])
+        for line in data.metadata.lines if line.keyword in PASSED_OVER
     ]
 
 

@@ -5,6 +5,7 @@ Each reader goes over the bytes behind `<WORD>` and gives what they say, or rais
 place of the first fault and what may stand there. Places are counted in the whole line, from 0.
 """
 
+import re
 from typing import Callable, Dict, List, NamedTuple, Optional, Tuple
 
 from argus_office.reading.files import BLANKS, grouped, is_number
@@ -395,6 +396,13 @@ def method(scan: Scanner) -> Method:
             "GH(n), MOD() or RND(b) may stand here: hypercubes in n passes, 1 to 8; in one "
             "pass; or rounding "
             "to multiples of b, 1 to 10^9.%s" % also)
+    behind = re.match(rb"[ \t]*\([ \t]*[0-9][0-9, \t]*\)?", scan.line[scan.at:])
+    if word == "MOD" and behind:
+        raise Wrong(
+            scan.at, scan.at + behind.end(),
+            "MOD() has no numbers here. Those of tau-ARGUS are the table, the time, and its "
+            "options for singletons, in whose place argus has a line of its own, <CONTRIBUTORS> "
+            "\"FILE\" (the manual, Singletons).")
     numbers = numbers_of(scan, *METHODS[word])
     scan.ends("Nothing may follow the method: it is that of all tables.")
     return Method(word, numbers[0] if numbers else 1)
