@@ -14,7 +14,7 @@ from typing import Dict, Iterator, List, NamedTuple, Optional, Sequence, Set, Tu
 from argus_office.reading.files import BLANKS, Unread, listed, shown, shown_name
 from argus_office.reading.job import Job
 from argus_office.reading.priors import Statement, statements_of
-from argus_office.reading.records import Microdata, Record, units_of
+from argus_office.reading.records import Microdata, Record, Units, units_of
 from argus_office.reading.trees import tree_of
 
 Name = Tuple[int, ...]
@@ -72,9 +72,10 @@ class Book:
         self.decimals = response.decimals() + (weight.decimals() if weight else 0)
         self.scale = 10**weight.decimals() if weight else 1
         records = list(self.data.rows())
+        fields = [{record.raw[it.cut()] for record in records} for it in self.variables]
+        codes = [{it.strip(BLANKS) for it in found} for found in fields]
         self.trees = [
-            tree_of(it, {it.field(record.raw).strip(BLANKS)
-                         for record in records} - {it.total()}) for it in self.variables
+            tree_of(it, found - {it.total()}) for it, found in zip(self.variables, codes)
         ]
         self.below = [it.children() for it in self.trees]
         at = {it.name: k for k, it in enumerate(self.variables)}
@@ -82,7 +83,7 @@ class Book:
                        for _, table in job.tables()]
         self.levels = [[job.level(t, self.variables[k].name) for k in spans]
                        for t, spans in enumerate(self.tables, 1)]
-        self.rows = [it for it in map(self.row_of, records) if it is not None]
+        self.rows = self.read_rows(records, fields)
         self.number_cells()
         self.tabulate()
         self.statements = self.read_priors()
@@ -128,37 +129,52 @@ class Book:
             name[k] = place
         return tuple(name)
 
-    def row_of(self, record: Record) -> Optional[Row]:
-        """What a record adds to the tables; nothing where a field of it can't be read."""
-        codes = [it.field(record.raw).strip(BLANKS) for it in self.variables]
-        value = units_of(self.response.field(record.raw).strip(BLANKS), self.response.decimals())
-        weight = units_of(self.weight.field(record.raw).strip(BLANKS),
-                          self.weight.decimals()) if self.weight else 1
-        if value is None or weight is None or any(code not in tree.at
-                                                  for code, tree in zip(codes, self.trees)):
-            return None
-        return Row(record, tuple(tree.at[code] for code, tree in zip(codes, self.trees)), value,
-                   weight)
+    def read_rows(self, records: List[Record], fields: List[Set[bytes]]) -> List[Row]:
+        """What the records add to the tables, but for those of which a field can't be read. FIELDS
+        are those of each variable; each is looked up once."""
+        cuts = [it.cut() for it in self.variables]
+        at = [{it: tree.at.get(it.strip(BLANKS)) for it in found}
+              for tree, found in zip(self.trees, fields)]
+        values = Units(self.response)
+        weights = Units(self.weight) if self.weight else None
+        rows = []
+        for record in records:
+            found = [place[record.raw[cut]] for place, cut in zip(at, cuts)]
+            places = tuple(it for it in found if it is not None)
+            value = values.of(record.raw)
+            weight = weights.of(record.raw) if weights else 1
+            if value is not None and weight is not None and len(places) == len(found):
+                rows.append(Row(record, places, value, weight))
+        return rows
 
     def tabulate(self) -> None:
-        """Adds the records up: first those of the same lowest codes, then each such group in all
-        cells above it."""
+        """Adds the records up: first those of the same lowest codes of a table, then each such
+        group in all cells above it."""
         keep = max([2] + [it.numbers[0] for it in self.job.rules() if it.word == "NK"])
         for t, spans in enumerate(self.tables):
-            groups: Dict[Name, List[int]] = {}
-            for k, row in enumerate(self.rows):
-                groups.setdefault(tuple(row.places[s] for s in spans), []).append(k)
-            for leaf, rows in groups.items():
-                total = sum(self.rows[k].amount() for k in rows)
-                tops = heapq.nlargest(keep,
-                                      [(self.rows[k].value, self.rows[k].weight) for k in rows])
-                for places in self.above(t, leaf):
+            for lowest, rows in self.groups(t).items():
+                total = sum(it.amount() for _, it in rows)
+                tops = heapq.nlargest(keep, [(it.value, it.weight) for _, it in rows])
+                for places in self.above(t, lowest):
                     cell = self.number[self.name_at(spans, places)]
                     if self.within[cell][0] == t:
                         it = self.cells[cell]
                         it.truth, it.freq = it.truth + total, it.freq + len(rows)
-                        it.row = rows[0] + 1 if it.freq == 1 else 0
-                        it.tops = heapq.nlargest(keep, it.tops + tops) if it.tops else tops
+                        it.row = rows[0][0] if it.freq == 1 else 0
+                        it.tops = sorted(it.tops + tops, reverse=True)[:keep]
+
+    def groups(self, table: int) -> Dict[Name, List[Tuple[int, Row]]]:
+        """The rows, each with its number from 1, by the lowest codes that a table shows of them."""
+        cuts = [
+            (k, [tree.up(place, level)[0] for place in range(len(tree.codes))])
+            for k, level in zip(self.tables[table], self.levels[table])
+            for tree in [self.trees[k]]
+        ]
+        found: Dict[Name, List[Tuple[int, Row]]] = {}
+        for number, row in enumerate(self.rows, 1):
+            name = tuple([lowest[row.places[k]] for k, lowest in cuts])
+            found.setdefault(name, []).append((number, row))
+        return found
 
     def cells_of(self, row: int) -> List[int]:
         """The cells in which a row falls (rows count from 1)."""

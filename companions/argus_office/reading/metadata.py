@@ -72,6 +72,10 @@ class Variable:
         """What stands before a code in the hierarchy file for each level."""
         return self.says("HIERLEADSTRING") or b"@"
 
+    def cut(self) -> slice:
+        """Where the field is in a record."""
+        return slice((self.first or 1) - 1, self.last())
+
     def field(self, record: bytes) -> bytes:
         """The bytes of the field in a record."""
         start = (self.first or 1) - 1

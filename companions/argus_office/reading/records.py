@@ -1,7 +1,7 @@
 """Microdata: records, numbered from 1, and their fields. A line with at least one byte is a record.
 """
 
-from typing import Iterator, NamedTuple, Optional
+from typing import Dict, Iterator, NamedTuple, Optional
 
 from argus_office.reading.files import BLANKS, Unread, content, grouped, lines_of, shown_name
 from argus_office.reading.job import Job, Names, names_of
@@ -32,6 +32,20 @@ def units_of(text: bytes, decimals: int) -> Optional[int]:
                                                               for it in whole + part):
         return None
     return int(whole + part.ljust(decimals, b"0"))
+
+
+class Units:
+    """The numbers of a variable in records, in units; each text is looked at once."""
+    def __init__(self, variable: Variable) -> None:
+        self.cut, self.decimals = variable.cut(), variable.decimals()
+        self.known: Dict[bytes, Optional[int]] = {}
+
+    def of(self, record: bytes) -> Optional[int]:
+        """The units in a record; nothing where there is no number."""
+        field = record[self.cut]
+        if field not in self.known:
+            self.known[field] = units_of(field.strip(BLANKS), self.decimals)
+        return self.known[field]
 
 
 def is_skipped(raw: bytes, response: Variable) -> bool:
