@@ -157,6 +157,6 @@ class Metadata:
         tree = read(lambda: tree_of(self.variables[variable], wanted))
         for code in there:
             at = tree.at.get(bytes_of(code), 0)
-            above = [text_of(tree.codes[it]) for it in tree.up(at)[1:]]
+            above = [text_of(tree.codes[it]) for it in tree.up(at)[1:] if it]
             found[code] = next((it for it in above if it in there), total)
         return found
