@@ -115,6 +115,14 @@ class Kept(Case):
             argus = put_command("programs/argus", "#!/bin/sh\necho not accepted: x\nexit 3\n")
             self.refused([JOB, "--argus", argus], why)
 
+    def test_before_the_run(self) -> None:
+        """Without a release it says how to make one."""
+        why = "page: argus check turnover.job: refused: %s: Absent. Make the release first: argus "
+        for name, what in (("turnover.csv", "table 1"), ("turnover.cert", "certificate")):
+            os.remove(name)
+            for words in ([JOB], [JOB, "--public"], [JOB, "--method"]):
+                self.refused(words, why % what + "run turnover.job\n")
+
     def test_altered(self) -> None:
         """A table of which one figure was changed: no public page, unless unchecked."""
         put("turnover.csv", read("turnover.csv").replace("140", "141"))

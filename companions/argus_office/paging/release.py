@@ -1,5 +1,6 @@
 """All that a page shows of a release."""
 
+import re
 from typing import List, Optional
 
 from argus_office.paging.asking import Argus, Listing, Ranges
@@ -18,6 +19,9 @@ WAYS = {
     "repair": "hidden by a repair",
     "extra": "hidden against a contributor",
 }
+
+# What argus check says where there is no release yet.
+NOT_THERE = re.compile(r"refused: (certificate|contributors|table [0-9]+): Absent")
 
 
 class Release:
@@ -99,6 +103,8 @@ class Release:
         """Takes what argus check says."""
         if status not in (0, 3):
             why = said.strip() or "status %d" % status
+            if NOT_THERE.fullmatch(why):
+                why += ". Make the release first: argus run %s" % self.job.name
             raise Stop("argus check %s: %s" % (self.job.name, why))
         self.accepted = said.strip()
         self.is_accepted = status == 0
