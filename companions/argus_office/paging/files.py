@@ -3,9 +3,10 @@ them."""
 
 import os
 import re
-from typing import Callable, Dict, List, Optional, TypeVar
+from typing import Callable, Dict, List, Optional, Tuple, TypeVar
 
 from argus_office.reading import files, job, metadata
+from argus_office.reading.arguments import Rule
 from argus_office.reading.files import Unread, bytes_of, text_of
 from argus_office.reading.trees import labelled_codes, tree_of
 
@@ -61,6 +62,12 @@ class Job:
             raise self.lacking()
         if all(value is not None for each in said for _, value in each):
             self.check()
+
+    def stated(self, word: str) -> List[Tuple[str, Rule]]:
+        """The job's rules of a name: as the job has them, and with their numbers."""
+        return [
+            (text, rule) for text, rule in zip(self.rules, self.source.rules())
+            if rule.word == word]
 
     def argument(self, command: str) -> str:
         """What stands behind a command, without blanks and in capital letters."""

@@ -6,13 +6,14 @@ is there, and has fields in braces, which stand for numbers and names of the rel
 
 import os
 import re
-from typing import Callable, Dict, List, Mapping, NamedTuple, Optional, Tuple
+from typing import Callable, Dict, List, Mapping, NamedTuple, Optional
 
 from argus_office.paging.files import Stop, text_in
 from argus_office.paging.release import Release
 from argus_office.paging.summary import hidden_part
 from argus_office.paging.tables import Table
 from argus_office.paging.texts import grouped, percent, some, visible
+from argus_office.reading.arguments import Rule
 
 # The template in English, beside this module.
 ENGLISH = os.path.join(os.path.dirname(os.path.realpath(__file__)), "method.txt")
@@ -46,10 +47,9 @@ def paragraphs_of(text: str) -> List[Paragraph]:
     return found
 
 
-def rule_of(text: str) -> Tuple[str, Dict[str, str]]:
-    """A rule's name, and its numbers by what a template calls them."""
-    name, _, rest = text.partition("(")
-    return name, dict(zip(NUMBERS.get(name, ""), re.findall(r"[0-9]+", rest)))
+def numbers_of(rule: Rule) -> Dict[str, str]:
+    """A rule's numbers by what a template calls them."""
+    return dict(zip(NUMBERS[rule.word], map(str, rule.numbers)))
 
 
 class Method:
@@ -60,8 +60,8 @@ class Method:
         if release.facts is None:
             raise Stop(" ".join(release.notes) or "the listing of the cells is lacking")
         self.release, self.facts, self.book = release, release.facts, release.book
-        self.rules = [rule_of(it) for it in release.job.rules]
-        self.method = re.match(r"[A-Z]*", release.job.method)[0]  # type: ignore[index]
+        self.rules = release.job.source.rules()
+        self.method = release.job.source.method().word
 
     def fields(self) -> Dict[str, str]:
         """The fields of every paragraph."""
@@ -102,7 +102,7 @@ class Method:
             is_hiding = bool(self.release.hidden)
             return [self.fields_of_table(it) for it in self.book.tables] if is_hiding else []
         if word == "rule" and name in NUMBERS:
-            return [numbers for rule, numbers in self.rules if rule == name]
+            return [numbers_of(it) for it in self.rules if it.word == name]
         if word == "method" and name in ("MOD", "GH", "RND"):
             is_hiding = name == "RND" or bool(self.release.hidden)
             return [{}] if self.method == name and is_hiding else []

@@ -54,7 +54,7 @@ class Summary(Part):
 
     def rule_name(self, rule: str) -> str:
         """A rule as the job has it."""
-        given = [it for it in self.release.job.rules if it.startswith(rule + "(")]
+        given = [text for text, _ in self.release.job.stated(rule)]
         if rule == "u":
             return "an a priori file (u)"
         return " or ".join(given) if given else rule

@@ -11,6 +11,7 @@ from typing import Dict, Iterable, List, Optional, Sequence, Tuple
 from argus_office.paging.amounts import Fact, Number
 from argus_office.paging.release import Release
 from argus_office.paging.texts import as_sum, linked, some, visible
+from argus_office.reading.arguments import Rule
 from argus_office.reading.certificate import Need, Step
 
 # A sum names at most so many of its terms, the largest; what the others come to is said in one.
@@ -33,11 +34,11 @@ class Words:
     def rule(self, name: str, cell: int) -> str:
         """Why a rule names a cell, from the cell's listing."""
         fact = self.fact(cell)
-        given = [it for it in self.release.job.rules if it.startswith(name + "(")]
+        given = self.release.job.stated(name)
         count = "%d record%s" % (fact.records, "" if fact.records == 1 else "s")
         if name == "FREQ" and given:
-            least = re.findall(r"\d+", given[0])[0]
-            return "it has %s, and %s wants at least %s" % (count, given[0], least)
+            text, rule = given[0]
+            return "it has %s, and %s wants at least %d" % (count, text, rule.numbers[0])
         if name == "ZERO":
             return "it has %s, and each of them is known to be 0" % count
         if name == "u":
@@ -45,18 +46,19 @@ class Words:
         if name in ("P", "PQ") and given:
             return self.rule_p(name, fact, given)
         if name == "NK" and given:
-            return self.rule_nk(fact, given)
+            return self.rule_nk(fact, [text for text, _ in given])
         return "the rule %s names it" % name
 
-    def rule_p(self, name: str, fact: Fact, given: List[str]) -> str:
+    def rule_p(self, name: str, fact: Fact, given: List[Tuple[str, Rule]]) -> str:
         """Why P or PQ names a cell: what is left without its two largest contributions."""
         show, rest = self.show, fact.value - fact.largest - fact.second
+        texts = some(text for text, _ in given)
         left = "without its two largest contributions, %s and %s, %s is left, " % (
             show(fact.largest), show(fact.second), show(rest))
         if name == "PQ":
-            return left + "too little beside the largest by " + some(given)
-        most = max(int(re.findall(r"\d+", it)[0]) for it in given)
-        return left + "which is less than %s%% of the largest (%s)" % (most, some(given))
+            return left + "too little beside the largest by " + texts
+        most = max(rule.numbers[0] for _, rule in given)
+        return left + "which is less than %d%% of the largest (%s)" % (most, texts)
 
     def rule_nk(self, fact: Fact, given: List[str]) -> str:
         """Why NK names a cell: how much of it its largest contributions make up."""
