@@ -25,13 +25,13 @@ class Browser:
         program = found()
         if program is None:
             raise FileNotFoundError("no Chromium here: on Debian, apt-get install chromium")
-        self.folder = tempfile.TemporaryDirectory(ignore_cleanup_errors=True)
+        self.folder = tempfile.mkdtemp()
         to_it, self.to = os.pipe()
         self.from_, from_it = os.pipe()
         # The browser reads what it is told from descriptor 3 and answers on 4.
         words = [str(program), "--headless=new", "--no-sandbox", "--disable-gpu",
                  "--remote-debugging-pipe", "--no-first-run", "--hide-scrollbars",
-                 "--user-data-dir=" + self.folder.name, "about:blank"]
+                 "--user-data-dir=" + self.folder, "about:blank"]
         shell = ["sh", "-c", 'exec "$@" 3<&%d 4>&%d' % (to_it, from_it), "sh", *words]
         self.ran = subprocess.Popen(
             shell, pass_fds=(to_it, from_it), stdin=subprocess.DEVNULL, stdout=subprocess.DEVNULL,
@@ -56,7 +56,7 @@ class Browser:
         # (a shell takes descriptors of one digit alone)
         os.close(self.to)
         os.close(self.from_)
-        self.folder.cleanup()
+        shutil.rmtree(self.folder, ignore_errors=True)
 
     def read(self, until: float) -> Dict[str, Any]:
         """The next thing that the browser says, before a time."""
